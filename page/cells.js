@@ -45,10 +45,10 @@ async function lookOnce() {
   const area = visible(), where = areaName(area), changed = new Set(), isAnother = where !== seenAt;
   await take(area, changed);
   seenAt = where;
+  if (changed.size || isAnother) draw(isAnother ? new Set() : changed);
   await lookAtSelected(area);
   await lookAtRanges(area);
   await lookAtNames(area);
-  if (changed.size || isAnother) draw(isAnother ? new Set() : changed);
   drawLine();
   tellMeanwhile();
   if (isWithin(boxOf([0, 0], [0, 0]), area)) drawTitle();
@@ -56,20 +56,30 @@ async function lookOnce() {
   if (isEmpty) isEmpty = !held.size && (await ask('pull 0 1'))[0] === 'end 0';
   $('examples').hidden = !isEmpty || !!editing;
 }
+let later = 0;
+function lookAfter(wait) {
+  later = later || setTimeout(() => { later = 0; look(); }, wait);
+}
+/** Whether what was read at a time is that old; where it isn't yet, there is a further look once it is. */
+function isOld(at, age) {
+  const wait = at + age - clock();
+  if (wait > 0) lookAfter(wait);
+  return wait <= 0;
+}
 // What is selected and can't be seen is asked for when it is selected, and now and then, so that a copy has it.
 let seenSelected = 0;
 async function lookAtSelected(area) {
-  const range = selected(), where = areaName(range), isOld = Date.now() - seenSelected > 2000;
-  if (where === seenRange && (!isOld || isWithin(range, area))) return;
+  const range = selected(), where = areaName(range);
+  if (where === seenRange && (isWithin(range, area) || !isOld(seenSelected, 2000))) return;
   if (!isWithin(range, area)) await take(range);
-  seenSelected = Date.now();
+  seenSelected = clock();
   seenRange = where;
 }
 // The texts in the ranges of the current formula that look like numbers, and so are passed over.
 let passedOver = '', passedOf = '', passedAt = 0;
 async function lookAtRanges(area) {
   const entry = heldAt(current), ranges = entry[0] === '=' ? rangesOf(entry) : [];
-  if (entry === passedOf && Date.now() - passedAt < 1000) return;
+  if (entry === passedOf && !(ranges.length && isOld(passedAt, 1000))) return;
   const texts = [];
   for (const range of ranges)
     for (const [key, text] of isWithin(range, area) ? held : await readArea('entries', range)) {
@@ -79,7 +89,7 @@ async function lookAtRanges(area) {
   const names = [...new Set(texts)];
   passedOver = names.length ? 'without ' + (names.length > 4 ? several(names.length, 'text') : names.join(', ')) +
     (names.length > 1 ? ', which only look like numbers' : ', which only looks like a number') : '';
-  [passedOf, passedAt] = [entry, Date.now()];
+  [passedOf, passedAt] = [entry, clock()];
 }
 async function look() {
   if (isLooking) { isStale = true; return; }
@@ -87,7 +97,7 @@ async function look() {
   try {
     do { isStale = false; await lookOnce(); } while (isStale);
   } catch (error) {
-    if (error.message !== 'lost') console.error(error);
+    if (error.message !== 'lost') { console.error(error); lookAfter(1000); }
   }
   isLooking = false;
 }

@@ -31,6 +31,7 @@ function moveTo([column, row], isExtending) {
 }
 
 // Drawing: only what is visible has elements.
+const MOST_FLASHING = 40;
 const cells = new Map(), heads = new Map(), rowElements = new Map();
 function place(element, x, y, width, height) {
   Object.assign(element.style, { left: x + 'px', top: y + 'px', width: width + 'px', height: height + 'px' });
@@ -100,7 +101,11 @@ function draw(changed = new Set()) {
   const area = visible(), range = selected();
   drawHeads(area, range);
   sweepAround(area);
-  for (const cell of cellsOf(area)) fill(cellElement(...cell), cell, changed.has(keyOf(...cell)));
+  // what flashes already begins anew, at the price of one layout for all; many cells would flash too slowly
+  const flashing = changed.size > MOST_FLASHING ? new Set() : changed;
+  for (const key of flashing) if (cells.has(key)) cells.get(key).classList.remove('flash');
+  if (flashing.size) void grid.offsetWidth;
+  for (const cell of cellsOf(area)) fill(cellElement(...cell), cell, flashing.has(keyOf(...cell)));
   const [x, y, width, height] = pixels(boxOf(current, current)), [left, top, wide, high] = pixels(range);
   place($('current'), x - 1, y - 1, width + 1, height + 1);
   place($('range'), left, top, wide - 1, high - 1);
@@ -135,7 +140,7 @@ function drawLine() {
 }
 function fill(element, cell, isNew) {
   const value = shownAt(cell), entry = heldAt(cell), mark = marks.get(keyOf(...cell));
-  if (isNew) { element.classList.remove('flash'); void element.offsetWidth; element.classList.add('flash'); }
+  if (isNew) element.classList.add('flash');
   const isSelected = String(isSame(cell, current));
   if (element.ariaSelected !== isSelected) element.ariaSelected = isSelected;
   const names = entry === '@choice' ? namesFor(cell) : null;

@@ -23,6 +23,8 @@ function keep(name, map) {
     // (it is kept as long as the page is open)
   }
 }
+/** The time in milliseconds, which never goes back. */
+const clock = () => performance.now();
 const bound = (value, most) => max(0, min(most - 1, value));
 const keyOf = (column, row) => row * COLUMNS + column;
 const cellAt = key => [key % COLUMNS, floor(key / COLUMNS)];

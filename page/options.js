@@ -48,10 +48,14 @@ function showOptions() {
   beside(options, cells.get(keyOf(...cell)));
   list.querySelector('input').focus();
 }
-/** Puts the marks on that the current cell shows, as they were chosen here or by others. */
+/** Puts the marks on that the current cell shows, as they were chosen here or by others. Of named options, those
+ * without a name are left out. */
 function drawOptions() {
-  const on = new Set(readOptions(shownAt(current)));
-  options.querySelectorAll('label input').forEach((mark, option) => { mark.checked = on.has(String(option)); });
+  const on = new Set(readOptions(shownAt(current))), names = namesFor(current) || [];
+  options.querySelectorAll('label input').forEach((mark, option) => {
+    mark.checked = on.has(String(option));
+    mark.parentNode.hidden = names.some(Boolean) && option >= names.length && !mark.checked;
+  });
 }
 function hideOptions() {
   if (options.hidden) return;

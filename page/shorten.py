@@ -1,7 +1,8 @@
 """Makes a script and a style short: without comments and needless blanks and signs, and with short local names.
 
 A name is replaced by the same short one everywhere. So no scope has to be known, and nothing is shadowed that wasn't
-before. What is declared outside of functions keeps its name, so that a browser's console can be read.
+before. What is declared outside of functions keeps its name, so that a browser's console can be read, except for a few
+words that stand often.
 """
 import collections
 import itertools
@@ -19,11 +20,14 @@ PATTERN = re.compile(r"/(?:[^/\\\[\n]|\\.|\[(?:[^\]\\]|\\.)*\])+/[a-z]*")
 BEFORE_PATTERN = re.compile(r"[(,=:\[!&|?{};+\-*<>]$|^return$")
 WORD = re.compile(r"[A-Za-z_$][\w$]*$")
 # So many parts stand in a line at least, so that lines don't get too long.
-LINE_PARTS = 60
+LINE_PARTS = 240
 # Properties of the page's own objects that get short names, too. A browser's object of which the scripts use a property
 # of that name would lose it; a call of one is found.
 OWN_PROPERTIES = {"after", "area", "before", "cell", "column", "entry", "from", "isHeard", "isSeen", "isUp", "kind",
                   "names", "source", "steps", "text", "why"}
+# Words that are declared outside of functions, and stand so often that they get short names.
+OFTEN = {"HEIGHT", "NO_LINK", "areaAround", "claim", "columnName", "focusGrid", "fromEntry", "hideOptions", "isInGrid",
+         "isSame", "isWithin", "numeralHabit", "putMany", "readArea", "textIn"}
 # Words of one or two letters that are no names.
 RESERVED = {"do", "if", "in", "of"}
 
@@ -141,6 +145,7 @@ class Names:
         """The short name of each word that gets one: what is used most has the shortest."""
         due = set().union(OWN_PROPERTIES, *self.local.values()) - self.outer - self.foreign
         due -= self.properties - OWN_PROPERTIES
+        due |= self.outer & OFTEN
         order = sorted(due, key=lambda word: (-self.counts[word] * len(word), word))
         pairs = zip(order, short_names({*self.counts, *RESERVED}))
         return {word: name for word, name in pairs if len(name) < len(word)}
@@ -212,4 +217,5 @@ def short_style(style):
 def short_page(page):
     """A page that says the same, without quotes and ends of elements that HTML doesn't need."""
     page = re.sub(r"</(dd|dt)>|</p>(?=\s*<(/|p|d|h2|footer))", "", page)
+    page = re.sub(r">\n<(?=/?(d[dlti]|h2|main|output|p|section))", "><", page)
     return re.sub(r'="([\w-]+)"', r"=\1", page)

@@ -55,9 +55,9 @@ link.onLink = () => {
   }
 };
 link.onChange = look;
+connect();
 Object.assign($('corner').style, { width: SIDE + 'px', height: HEIGHT + 'px', marginBottom: -HEIGHT + 'px' });
 layOut();
 drawButtons();
 draw();
 grid.focus();
-connect();

@@ -30,12 +30,16 @@ function setWidth(column, width) {
   heads.clear();
   draw();
 }
-/** Gives a column the width that the longest of what it shows wants. */
+/** Gives a column the width that the widest of its cells wants. */
 async function fitWidth(column) {
-  const found = await readArea('rows', { ...ALL, left: column, right: column });
-  const measure = document.createElement('canvas').getContext('2d');
-  measure.font = getComputedStyle(document.body).font;
-  const texts = [...found.values()].map(text => measure.measureText(text).width);
-  if (texts.length) setWidth(column, max(...texts) + 20 * SCALE); else setWidth(column, WIDTH);
+  const area = { ...ALL, left: column, right: column }, probe = made('div', '', space);
+  let width = 0;
+  await take(area).catch(() => tell(NO_LINK));
+  for (const cell of cellsOf(area).filter(shownAt)) {
+    fill(probe, cell);
+    width = max(width, probe.offsetWidth + 4);
+  }
+  probe.remove();
+  setWidth(column, width || WIDTH);
   keep('widths', widths);
 }

@@ -7,13 +7,13 @@ _sheet() {
         return
     fi
     case "${COMP_WORDS[1]}" in
-        run) words='--workers --replica --explain --strict --keep -h --help' ;;
+        run) words='--workers --replica --squash --explain --strict --keep -h --help' ;;
         table) words='--workers --entries --explain -h --help' ;;
-        serve) words='--port --sessions --seats --wait --idle --explain --keep --title --workers --replica -h --help' ;;
+        serve) words='--port --sessions --seats --wait --idle --explain --keep --title --workers --replica --squash -h --help' ;;
         sync) words='--from --to --explain -h --help' ;;
         follow) words='--from --until-now --every --explain -h --help' ;;
         talk) words='--to --explain -h --help' ;;
-        squash) words='-h --help' ;;
+        squash) words='--keep -h --help' ;;
         help) words='run table serve sync follow talk squash' ;;
     esac
     [ "$COMP_CWORD" -gt 1 ] || words='run table serve sync follow talk squash help -h --help -V --version'

@@ -2,6 +2,7 @@
 import base64
 import contextlib
 import json
+import os
 import shutil
 import subprocess
 import tempfile
@@ -25,6 +26,19 @@ KEYS = {"Enter": 13, "Tab": 9, "Escape": 27, "Backspace": 8, "Delete": 46, "Home
 def program():
     """The path of a browser, or none."""
     return next((found for found in map(shutil.which, NAMES) if found), None)
+
+
+def processor_time(session):
+    """How many seconds of processor time all processes of a session have had."""
+    ticks = 0
+    for path in Path("/proc").glob("[0-9]*/stat"):
+        try:
+            fields = path.read_text().rpartition(")")[2].split()
+        except OSError:
+            continue
+        if int(fields[3]) == session:
+            ticks += int(fields[11]) + int(fields[12])
+    return ticks / os.sysconf("SC_CLK_TCK")
 
 
 def devtools(port, target):

@@ -14,6 +14,12 @@ NAMES = ["firefox-esr", "firefox"]
 # What the protocol calls keys that are no letters.
 KEYS = {"Enter": "\ue007", "Tab": "\ue004", "Escape": "\ue00c", "Delete": "\ue017", "ArrowDown": "\ue015",
         "ArrowUp": "\ue013", "ArrowLeft": "\ue012", "ArrowRight": "\ue014", "Control": "\ue009", "Shift": "\ue008"}
+# What keeps a start short: one process for pages, none in advance, and nothing asked of the network.
+PREFERENCES = {"dom.ipc.processCount": 1, "dom.ipc.processPrelaunch.enabled": False, "browser.startup.page": 0,
+               "network.captive-portal-service.enabled": False, "app.normandy.enabled": False,
+               "datareporting.policy.dataSubmissionEnabled": False, "browser.shell.checkDefaultBrowser": False}
+# How long a start may take at most, in seconds: on a busy machine it is long.
+LONGEST_START = 5 * LIMIT
 
 
 def program():
@@ -27,7 +33,9 @@ class Firefox:
     def __init__(self):
         self.folder = tempfile.TemporaryDirectory(prefix="sheet-firefox-", ignore_cleanup_errors=True)
         self.port, self.count, self.bytes = free_port(), 0, b""
-        Path(self.folder.name, "user.js").write_text(f'user_pref("marionette.port", {self.port});\n')
+        preferences = {**PREFERENCES, "marionette.port": self.port}
+        Path(self.folder.name, "user.js").write_text("".join(
+            f'user_pref("{name}", {json.dumps(value)});\n' for name, value in preferences.items()))
         self.process = subprocess.Popen(
             [program(), "--headless", "--marionette", "--no-remote", "--profile", self.folder.name],
             stdin=subprocess.DEVNULL, stdout=subprocess.DEVNULL, stderr=subprocess.DEVNULL, start_new_session=True)
@@ -35,16 +43,17 @@ class Firefox:
             self.connection = self.connected()
             self.receive()
             self.call("WebDriver:NewSession", capabilities={"alwaysMatch": {}})
+            self.connection.settimeout(LIMIT)
         except BaseException:
             self.end()
             raise
 
     def connected(self):
         """A connection to the browser, once it listens."""
-        deadline = time.monotonic() + LIMIT
+        deadline = time.monotonic() + LONGEST_START
         while True:
             try:
-                return socket.create_connection((HERE, self.port), timeout=LIMIT)
+                return socket.create_connection((HERE, self.port), timeout=LONGEST_START)
             except OSError:
                 if time.monotonic() > deadline:
                     raise

@@ -1,7 +1,8 @@
 /* Makes long waits short. A program that is started with this library preloaded waits for what a connection sends or
    takes a tenth of the time that it asks for, where that is 20 seconds or more, and a sixtieth from two minutes on;
-   shorter waits stay. */
+   with HASTEN_TEN in its environment a quarter from ten seconds on. Shorter waits stay. */
 #define _GNU_SOURCE
+#include <stdlib.h>
 #include <sys/socket.h>
 #include <sys/syscall.h>
 #include <sys/time.h>
@@ -10,7 +11,7 @@
 /* How many times shorter a wait of so many seconds is. */
 static long long haste(long long seconds)
 {
-    return seconds >= 120 ? 60 : seconds >= 20 ? 10 : 1;
+    return seconds >= 120 ? 60 : seconds >= 20 ? 10 : seconds >= 10 && getenv("HASTEN_TEN") ? 4 : 1;
 }
 
 int setsockopt(int socket, int level, int name, const void *value, socklen_t size)

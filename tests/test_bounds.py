@@ -13,7 +13,7 @@ ROWS = 962
 BOUND = 0.1
 TRIES = 10
 # .. and the longest for a delta line of any length that is refused.
-REFUSED = 0.05
+REFUSED = 0.1
 STACK_KB = 2_048
 ENDLESS_KB = 1_024
 # In this the dearest table is refused for what is at fault in it.
@@ -229,6 +229,18 @@ class Growth(ProgramTest):
         numbers = list(pushes(lambda column, row: row, range(2, ROWS + 1)))
         edits = [later(line, time) for time in (2, 3) for line in pushes(lambda *_: -time, range(2, ROWS + 1, 50))]
         self.assert_remembered(numbers, ["set A1 =SUM([.A2:.CZ962])", *edits])
+
+    def assert_as_without(self, fault):
+        """An edit under sums of all rows takes about as long beside these faults as without a fault."""
+        self.assert_short(lambda: self.seconds([*PRODUCTS, *fault, *summing(ROWS)], "set A19 #"),
+                          lambda: LONGER * self.seconds([*PRODUCTS, *summing(ROWS)], "set A19 #"))
+
+    def test_sums_beside_a_fault(self):
+        self.assert_as_without(["set BA500 =MOD(1;0)"])
+
+    def test_sums_beside_a_fault_in_each_column(self):
+        faults = pushes(lambda column, row: "=MOD(1;0)" if row == 958 else row, [958])
+        self.assert_as_without([later(line, 2) for line in faults])
 
     def test_edits_of_one_cell_to_which_100_048_formulas_refer(self):
         """Which these are is found once, and not again while the one cell is edited."""

@@ -141,13 +141,14 @@ class Requests(Door):
 
     def test_one_that_breaks_off_or_says_nothing(self):
         with serving(None, "--idle", "1") as server:
-            for front in (b"", b"P", b"POST / HT", b"POST / HTTP/1.1"):
+            silent = {front: server.client() for front in (b"", b"P", b"POST / HT", b"POST / HTTP/1.1")}
+            for front, client in silent.items():
+                broken = server.client()
+                broken.send(front)
+                broken.reset()
+                client.send(front)
+            for front, client in silent.items():
                 with self.subTest(front=front):
-                    client = server.client()
-                    client.send(front)
-                    client.reset()
-                    client = server.client()
-                    client.send(front)
                     self.assertEqual(client.told(), b"")
                     client.close()
             self.untouched(server)

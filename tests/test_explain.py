@@ -43,7 +43,7 @@ SIGNS = (
 LINES = (
     ("SET A1 5", "err 16 command", "SET is written set"),
     ("walk", "err 16 command", "walk is no verb; the verbs are get, set, add, sub, choose, unchoose, rows, entry, "
-     "entries, push, merge, pull, replica"),
+     "entries, push, merge, pull, replica, wait"),
     ("get a1", "err 1 cell", "a1 is written A1"),
     ("get A1 ", "err 16 command", "one space stands between two words, and none at the end"),
     ("add A1 1", "err 5 not-tally", "set A1 @tally makes it a counter"),

@@ -27,10 +27,12 @@ class Peers(Following):
     """What a peer is asked, and what ends it."""
 
     def test_each_pull_is_after_the_version_of_the_reply_before(self):
-        peer = self.peer(b"delta 16 [1]\n", b"delta 17 [2]\n", b"end 17\n", b"end 17\n", b"delta 20 [3]\n")
-        self.assertEqual(follow(peer.port, "--every", "1"), Ended(0, lines("push [1]", "push [2]", "push [3]")))
+        peer = self.peer(b"delta 16 [1]\n", b"delta 17 [2]\n", b"end 17\n", b"version 17\n", b"end 17\n",
+                         b"version 20\n", b"delta 20 [3]\n")
+        self.assertEqual(follow(peer.port), Ended(0, lines("push [1]", "push [2]", "push [3]")))
         peer.close()
-        self.assertEqual(peer.asked, [f"pull {n} 16" for n in (0, 16, 17, 17, 17, 20)])
+        self.assertEqual(peer.asked, ["pull 0 16", "pull 16 16", "pull 17 16", "wait 17", "pull 17 16", "wait 17",
+                                      "pull 17 16", "pull 20 16"])
 
     def test_until_now_it_ends_at_the_first_end(self):
         peer = self.peer(b"delta 16 [1]\n", b"end 16\n", b"delta 17 [2]\n")
@@ -52,6 +54,13 @@ class Peers(Following):
                 ended = follow(self.peer(b"delta 3 [1]\n", reply.replace(b"3", b"2")).port)
                 self.assertEqual(ended, UNEXPECTED._replace(output=lines("push [1]")))
 
+    def test_replies_to_a_wait_that_are_not_due(self):
+        for reply in (b"version 2\n", b"version\n", b"version x\n", b"end 3\n", b"delta 4 [1]\n", b"ok 4\n",
+                      b"version 4"):
+            with self.subTest(reply=reply):
+                ended = follow(self.peer(b"delta 3 [1]\n", b"end 3\n", reply).port)
+                self.assertEqual(ended, UNEXPECTED._replace(output=lines("push [1]")))
+
     def test_a_line_that_is_too_long(self):
         self.assertEqual(follow(self.peer(b"delta 1 [" + b" " * 300_000 + b"]\n").port), UNEXPECTED)
 
@@ -62,20 +71,33 @@ class Peers(Following):
     def test_a_port_on_which_nothing_listens(self):
         self.assertEqual(follow(free_port()), Ended(1, b"", DEVICE_FAILED))
 
-    def test_it_waits_between_two_questions(self):
-        for every, count in ((200, 3), (700, 2)):
-            with self.subTest(every=every):
-                peer = self.peer(*[b"end 0\n"] * count)
-                begun = time.monotonic()
-                self.assertEqual(follow(peer.port, "--every", str(every)), Ended(0))
-                self.assertGreater(time.monotonic() - begun, 0.95 * count * every / 1000)
+    def test_a_peer_is_asked_nothing_while_it_waits(self):
+        asked = []
+
+        def reply(line):
+            asked.append(line)
+            if line.startswith("wait"):
+                time.sleep(0.5)
+            return {"pull 0 16": b"end 0\n", "wait 0": b"version 0\n"}[line] if len(asked) < 5 else None
+
+        peer = FakePeer(reply)
+        self.addCleanup(peer.close)
+        begun = time.monotonic()
+        self.assertEqual(follow(peer.port), Ended(0))
+        self.assertGreater(time.monotonic() - begun, 0.95)
+        self.assertEqual(asked, ["pull 0 16", "wait 0", "pull 0 16", "wait 0", "pull 0 16"])
+
+    def test_the_pause_of_earlier_versions_has_no_effect(self):
+        begun = time.monotonic()
+        self.assertEqual(follow(self.peer(b"end 0\n", b"version 0\n").port, "--every", "60000"), Ended(0))
+        self.assertLess(time.monotonic() - begun, 30)
 
 
 class Replicas(Following):
     """A server that is followed."""
 
     def test_what_comes_later(self):
-        with serving(2) as server, self.followed(server.port, "--every", "1") as follower:
+        with serving(2) as server, self.followed(server.port) as follower:
             client = server.client()
             for n in range(1, 40):
                 self.assertEqual(client.ask(f"set A{n} {n}"), f"ok {n}")
@@ -102,7 +124,7 @@ class Replicas(Following):
         with serving(2) as server:
             client = server.client()
             client.ask("set A1 1")
-            with self.followed(server.port, "--every", "1") as follower:
+            with self.followed(server.port) as follower:
                 follower.stdout.readline()
                 follower.stdout.close()
                 client.ask("set A1 2")
@@ -137,8 +159,8 @@ class Rings(Following):
     def hand_on(self, stack, source, target):
         """Follows one server, and hands each line to another, as `follow | talk` does."""
         connection = stack.enter_context(socket.create_connection((HERE, target.port)))
-        stack.enter_context(started("follow", "--from", str(source.port), "--every", "5",
-                                    stdin=subprocess.DEVNULL, stdout=connection.fileno()))
+        stack.enter_context(started("follow", "--from", str(source.port), stdin=subprocess.DEVNULL,
+                                    stdout=connection.fileno()))
         replies = threading.Thread(target=self.read_on, args=(connection,), daemon=True)
         replies.start()
         stack.callback(lambda: (connection.shutdown(socket.SHUT_RDWR), replies.join(LIMIT)))

@@ -1,8 +1,9 @@
 """The hunt of `./test --hunt`, from a fixed seed: a fixed number of plans of each part, and planted faults of scripts.
 
-The plans are the same in each run. It takes some half a minute.
+The plans are the same in each run, but those of `costs`. It takes some half a minute.
 """
 import subprocess
+from concurrent.futures import ThreadPoolExecutor
 
 from hunt import deltas, faults, finds
 from hunt.finds import Hunt
@@ -11,7 +12,7 @@ from program import LIMIT, TOP, ProgramTest
 
 SEED = 15
 # How many plans of each part are run.
-PLANS = {"scripts": 400, "replicas": 30, "sessions": 12, "faults": 12, "pages": 2}
+PLANS = {"scripts": 400, "replicas": 30, "sessions": 12, "faults": 12, "costs": 12, "pages": 2}
 # Each planted fault has to be found among so many scripts, and its script to be left with so few lines.
 FEW_SCRIPTS, FEW_LINES = 60, 12
 
@@ -22,32 +23,38 @@ def able():
 
 
 class Command(ProgramTest):
-    def start(self, *words):
+    def start(self, words):
         """Runs `./test` with these words to its end."""
         # (the last plan is run to its end, whatever the time)
         how = {"stdin": subprocess.DEVNULL, "capture_output": True, "text": True, "timeout": 4 * LIMIT}
         return subprocess.run([TOP / "test", *words], **how)
 
+    def start_each(self, *asked):
+        """Yields each of these lists of words, and how `./test` ended with it. A few run at once."""
+        with ThreadPoolExecutor(4) as pool:
+            yield from zip(asked, pool.map(self.start, asked))
+
     def test_it_counts_what_it_compared(self):
-        ran = self.start("--hunt", "0.05", "--seed", str(SEED))
+        ran = self.start(["--hunt", "0.05", "--seed", str(SEED)])
         self.assertEqual((ran.returncode, ran.stderr), (0, ""))
         told = (r"(?s)^hunt: seed 15\n(hunt: no \w+, since .*\n)?hunt: \d+ scripts \(.*\n"
                 r"[1-9]\d* passed, 0 failed(, 1 skipped)?\n$")
         self.assertRegex(ran.stdout, told)
 
     def test_one_part_alone(self):
-        for part in able():
-            with self.subTest(part=part.name):
-                ran = self.start("--hunt", "0.002", "--seed", str(SEED), "--only", part.name)
+        hunts = [["--hunt", "0.002", "--seed", str(SEED), "--only", part.name] for part in able()]
+        for words, ran in self.start_each(*hunts):
+            with self.subTest(words=words):
                 self.assertEqual((ran.returncode, ran.stderr), (0, ""))
-                told = rf"^hunt: seed 15\nhunt: \d+ {part.name}[^;\n]*\n[1-9]\d* passed, 0 failed\n$"
+                told = rf"^hunt: seed 15\nhunt: \d+ {words[-1]}[^;\n]*\n[1-9]\d* passed, 0 failed\n$"
                 self.assertRegex(ran.stdout, told)
 
     def test_words_that_have_no_sense_are_refused(self):
-        for words in (["--hunt"], ["--hunt", "long"], ["--hunt", "1", "--seed", "x"], ["--hunt", "1", "--only", "x"],
-                      ["--hunt", "1", "--replay", "x"]):
+        wrong = (["--hunt"], ["--hunt", "long"], ["--hunt", "1", "--seed", "x"], ["--hunt", "1", "--only", "x"],
+                 ["--hunt", "1", "--replay", "x"])
+        for words, ran in self.start_each(*wrong):
             with self.subTest(words=words):
-                self.assertEqual(self.start(*words).returncode, 2)
+                self.assertEqual(ran.returncode, 2)
 
 
 class Fixed(ProgramTest):

@@ -302,7 +302,7 @@ class Refuses(KeepingTest):
         self.assertEqual(self.file.read_bytes(), content)
 
     def test_other_commands_keep_nothing(self):
-        for words in (("table",), ("sync", "--from", "1", "--to", "2"), ("follow", "--from", "1"), ("squash",),
+        for words in (("table",), ("sync", "--from", "1", "--to", "2"), ("follow", "--from", "1"),
                       ("talk", "--to", "1")):
             with self.subTest(words=words):
                 self.assertEqual(run(*words, "--keep", str(self.file)).status, 2)

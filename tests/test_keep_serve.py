@@ -298,9 +298,10 @@ class Killed(KeepingTest):
 
     def test_each_change_that_was_answered_is_there_at_the_next_start(self):
         chance = random.Random(39)
-        opened = rounds = killed_amid = 0
+        rounds = killed_amid = 0
+        before, deltas = b"", []
         while rounds < self.ROUNDS:
-            answered = {}
+            answered, opened = {}, len(deltas)
             with serving(None, "--keep", str(self.file), "--wait", "60", program=PROGRAM) as server:
                 tasks = [(self.ask_on, number) for number in range(self.CLIENTS)] + [(self.pour, 0)]
                 threads = [threading.Thread(target=task, args=(server, number, rounds, answered))
@@ -314,20 +315,22 @@ class Killed(KeepingTest):
                     thread.join(LIMIT)
             # (it tells that it listens before it tells what it has opened)
             self.assertIn(ended, [Ended(-signal.SIGKILL, b"", told) for told in (b"", self.opened(opened))])
+            # what was kept before stays, and only what is new is read
             content = self.file.read_bytes()
-            deltas = kept.deltas_in(content)
+            self.assertTrue(content.startswith(before))
+            deltas += kept.deltas_in(b"\n" + content[len(before):] if before else content)
+            before = kept.whole_lines(content)
             # each receipt is the place of its change in the file
             for number, text in answered.items():
                 self.assertLess(opened, number)
                 self.assertLessEqual(number, len(deltas), text)
                 self.assertIn(text, delta_line(deltas[number - 1]))
-            opened = len(deltas)
-            killed_amid += content != kept.whole_lines(content) or len(deltas) > max(answered, default=0)
+            killed_amid += content != before or len(deltas) > max(answered, default=0)
             rounds += 1
         # the next start shows what the file says
         given = self.file.read_bytes()
         ended = self.run_kept(b"rows A1:I1\n")
-        self.assertEqual((ended.status, ended.error), (0, self.opened(opened)))
+        self.assertEqual((ended.status, ended.error), (0, self.opened(len(deltas))))
         whole = kept.whole_lines(given).decode().split("\n")[:-1]
         self.assertTrue(run("run", given=lines(*whole, "rows A1:I1")).output.endswith(ended.output))
 

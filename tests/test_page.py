@@ -51,18 +51,23 @@ def seated(port, seconds=LIMIT):
 
 
 def at_once(*tasks):
-    """Runs these tasks beside each other, and returns what each of them returned."""
-    found, barrier = [None] * len(tasks), threading.Barrier(len(tasks))
+    """Runs these tasks beside each other, and returns what each of them returned, or raises what one of them raised."""
+    found, troubles, barrier = [None] * len(tasks), [], threading.Barrier(len(tasks))
 
     def work(number):
-        barrier.wait(LIMIT)
-        found[number] = tasks[number]()
+        try:
+            barrier.wait(LIMIT)
+            found[number] = tasks[number]()
+        except BaseException as trouble:
+            troubles.append(trouble)
 
     threads = [threading.Thread(target=work, args=(number,)) for number in range(len(tasks))]
     for thread in threads:
         thread.start()
     for thread in threads:
         thread.join(LIMIT)
+    if troubles:
+        raise troubles[0]
     return found
 
 
@@ -381,7 +386,7 @@ class Messages(PageTest):
 
 class Slots(ProgramTest):
     def test_sixteen_of_both_kinds(self):
-        with serving(None, "--wait", "1") as server, contextlib.ExitStack() as stack:
+        with serving(None, "--seats", "16", "--wait", "1") as server, contextlib.ExitStack() as stack:
             browsers = [stack.enter_context(WebSocket(server.port)) for _ in range(8)]
             clients = [server.client() for _ in range(8)]
             for number in range(8):
@@ -527,9 +532,8 @@ class Silences(ProgramTest):
         cls.how = {"program": PROGRAM, "env": preloaded.before(library)}
 
     def test_a_browser_that_says_nothing_more_for_5_minutes_or_as_long_as_is_asked_for(self):
-        for words, seconds in (((), 300 / 60), (("--idle", "60"), 60 / 10)):
-            with self.subTest(words=words), serving(None, *words, **self.how) as server, \
-                    WebSocket(server.port) as opened:
+        def say_nothing(seconds, *words):
+            with serving(None, *words, **self.how) as server, WebSocket(server.port) as opened:
                 self.assertEqual(opened.ask("get A1"), "val \n")
                 since = time.monotonic()
                 self.assertEqual(opened.closing()[0], None)
@@ -537,6 +541,8 @@ class Silences(ProgramTest):
                 self.assertGreater(lasted, 0.95 * seconds)
                 # (a busy machine takes its time, too)
                 self.assertLess(lasted, 1.5 * seconds + 3)
+
+        at_once(lambda: say_nothing(300 / 60), lambda: say_nothing(60 / 10, "--idle", "60"))
 
 
 class Ends(ProgramTest):
@@ -552,7 +558,10 @@ class Ends(ProgramTest):
                 self.assertEqual(again.ask("get A1"), "val \n")
 
     def test_a_browser_that_reads_nothing_gives_its_slot_up(self):
-        with serving(None, "--seats", "1") as server, WebSocket(server.port, room=4096) as slow:
+        # (the ten seconds are two and a half: `hasten.c`)
+        library = preloaded.build("hasten.c", self.folder() / "hasten.so")
+        how = {"program": PROGRAM, "env": preloaded.before(library, HASTEN_TEN="yes")}
+        with serving(None, "--seats", "1", **how) as server, WebSocket(server.port, room=4096) as slow:
             slow.connection.settimeout(1)
             with contextlib.suppress(OSError):
                 for _ in range(500):

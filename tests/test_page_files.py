@@ -162,6 +162,20 @@ class Widths(BrowserTest):
         page.key("ArrowUp", ALT | SHIFT)
         page.wait_for(f"widthOf(1) < {wide}")
 
+    def test_counters_and_sets_fit_with_their_buttons(self):
+        page = self.page()
+        self.addCleanup(lambda: page.value("localStorage.clear()"))
+        self.fill("set B1 @tally", "add B1 1000000", "set C1 @choice")
+        self.fill(*(f"choose C1 {option}" for option in range(20, 30)))
+        page.wait_for("shownAt([2, 0]).length", 31)
+        for column, part in ((1, "span"), (2, ".marks")):
+            self.go(page, f"{'ABC'[column]}1")
+            page.key("ArrowUp", ALT | SHIFT)
+            page.wait_for(f"widths.has({column})")
+            cell = f"document.getElementById('cell-{column}')"
+            page.wait_for(f"[{cell}, {cell}.querySelector('{part}')].every(e => e.scrollWidth <= e.clientWidth + 1)")
+        self.assertLess(page.value("widthOf(1)"), 160)
+
 
 class Names(BrowserTest):
     def test_options_have_names(self):
@@ -181,6 +195,13 @@ class Names(BrowserTest):
         page.wait_for("document.querySelectorAll('#options label')[2].textContent", "2 Wed")
         page.click(*page.middle("document.querySelectorAll('#options label input')[2]"))
         self.assert_held("get B2", "val {1,2}")
+        # only they are offered, and those that are on
+        offered = "[...document.querySelectorAll('#options label')].filter(label => !label.hidden).length"
+        self.assertEqual(page.value(offered), 3)
+        self.fill("choose B2 9")
+        page.wait_for(offered, 4)
+        self.fill("unchoose B2 9")
+        page.wait_for(offered, 3)
         # they may be pointed at, and change
         page.click(*page.middle("document.getElementById('naming')"))
         page.mouse("mousePressed", *self.middle(page, 5, 0), clickCount=1, buttons=1)

@@ -5,10 +5,9 @@ where nothing else runs on the core, it would be in time by both.
 """
 import os
 import unittest
-from pathlib import Path
 
 import browser
-from browser import Browser
+from browser import Browser, processor_time
 from program import NO_BROWSER, ProgramTest
 from servers import serving
 
@@ -16,19 +15,6 @@ MOST_SECONDS, TRIES = 0.3, 20
 # Resolves once a page has first shown something.
 FIRST = """new Promise(done => new PerformanceObserver(list => list.getEntriesByName('first-contentful-paint')
   .forEach(entry => done(entry.startTime))).observe({ type: 'paint', buffered: true }))"""
-
-
-def processor_time(session):
-    """How many seconds of processor time all processes of a session have had."""
-    ticks = 0
-    for path in Path("/proc").glob("[0-9]*/stat"):
-        try:
-            fields = path.read_text().rpartition(")")[2].split()
-        except OSError:
-            continue
-        if int(fields[3]) == session:
-            ticks += int(fields[11]) + int(fields[12])
-    return ticks / os.sysconf("SC_CLK_TCK")
 
 
 def first_picture(url):

@@ -144,6 +144,16 @@ class Screens(FoundTest):
         page.wait_for("innerWidth", 320)
         self.fits(page, 320)
         self.assertGreater(page.value("grid.clientHeight"), 250)
+        # what is said below the grid is there as a whole
+        self.go(page, "A6:A7")
+        page.wait_for("document.getElementById('sums').textContent", "Sum -1250 \u00b7 Count 1 \u00b7 Least -1250 "
+                      "\u00b7 Greatest -1250 (without 1 text that looks like a number)")
+        for box in ("sums", "hint"):
+            page.wait_for(f"document.getElementById('{box}').textContent !== ''")
+            self.assertLessEqual(page.value(f"document.getElementById('{box}').getBoundingClientRect().right"), 320)
+            cut = page.value(f"(e => e.scrollWidth - e.clientWidth)(document.getElementById('{box}'))")
+            self.assertLessEqual(cut, 0)
+        self.assertLessEqual(page.value("document.querySelector('footer').getBoundingClientRect().bottom"), 568)
         page.click(*self.middle(page, 0, 1, "[data-action=add]"))
         self.assert_held("get A2", "val 4")
         page.key("?")

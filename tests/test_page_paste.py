@@ -1,9 +1,12 @@
 """A paste into the page of `sheet serve` loses nothing: what is refused is told and marked, and the rest goes on."""
 import unittest
 
-from browser import CONTROL
+from browser import CONTROL, processor_time
 from browser_page import BrowserTest
 
+# Resolves to the time at which so many acts are done, and the last pasted cell holds this.
+PASTED = """new Promise(ended => { const look = () => done.length === %d && heldAt([19, 49]) === '%d'
+  ? ended(performance.now()) : setTimeout(look, 5); look(); })"""
 LONG = "Bring the projector, the long cable and the list of everybody who wants lunch, too"
 
 
@@ -79,18 +82,18 @@ class Fields(BrowserTest):
 class Speed(BrowserTest):
     def test_a_thousand_cells_within_a_second(self):
         page = self.page()
-        # the machine may be busy: of some pastes one has to be in time
+        # the machine may be busy: of some pastes one has to be in time, by the clock or by the browser's processor time
         times = []
         for first in range(1, 6):
             text = "\n".join("\t".join(str(first + 20 * row + n) for n in range(20)) for row in range(50))
-            begin = page.value("performance.now()")
+            before, begin = processor_time(self.browser.process.pid), page.value("performance.now()")
             self.paste(page, text)
-            page.wait_for("heldAt([19, 49])", str(first + 999))
-            times.append(page.value("performance.now()") - begin)
+            ended = page.value(PASTED % (first, first + 999))
+            taken = processor_time(self.browser.process.pid) - before
+            times.append(min(taken, (ended - begin) / 1000))
             self.assert_held("get T50", f"val {first + 999}")
             self.assertEqual(self.client.ask("get A1"), f"val {first}")
-            page.wait_for("done.length", first)
-            if times[-1] < 1000:
+            if times[-1] < 1:
                 return
         self.fail(f"no paste was done in time: {times}")
 

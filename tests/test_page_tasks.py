@@ -5,11 +5,23 @@ from browser import CONTROL
 from browser_page import BrowserTest
 
 
+# Cells of each kind, with two in a circle, a fault and a text that looks like a number.
+KINDS = {
+    "A1": "Friday lunch", "A2": "Pizza", "A3": "Pasta", "A4": "Salad", "A6": "All votes", "A7": "Most", "A9": "Budget",
+    "A10": "Each", "A11": "Reserve", "A12": "Spent", "B1": "Votes", "B2": "@tally", "B3": "@tally", "B4": "@tally",
+    "B6": "=SUM([.B2:.B4])", "B7": "=MAX([.B2:.B4])", "B9": "400", "B10": "=QUOTIENT([.B9];[.B6])",
+    "B11": "=[.B9]-[.B12]", "B12": "=[.B9]-[.B11]", "D1": "Who", "D2": "Ann", "D3": "Bob", "D4": "Eve",
+    "D6": "All hours", "D9": "Share", "D10": "Price", "E1": "Days", "E2": "@choice", "E3": "@choice", "E4": "@choice",
+    "E9": "=[.D9]*2", "E10": "12.50", "F1": "Hours a day", "F2": "6", "F3": "8", "F4": "4", "G1": "Hours",
+    "G2": "=[.E2]*[.F2]", "G3": "=[.E3]*[.F3]", "G4": "=[.E4]*[.F4]", "G6": "=SUM([.G2:.G4])",
+}
+
+
 class Tasks(BrowserTest):
-    def window(self, height):
+    def window(self, height, width=760):
         """A page of the size of a picture."""
         page = self.page()
-        page.call("Emulation.setDeviceMetricsOverride", width=760, height=height, deviceScaleFactor=1, mobile=False)
+        page.call("Emulation.setDeviceMetricsOverride", width=width, height=height, deviceScaleFactor=1, mobile=False)
         page.wait_for("innerHeight", height)
         return page
 
@@ -22,10 +34,28 @@ class Tasks(BrowserTest):
             page.type(row[-1])
             page.key("Enter")
 
+    def widen(self, page, column):
+        """Has a column as wide as it needs, by a double click at its head's edge."""
+        edge = f"[...document.querySelectorAll('.edge')].find(edge => edge.dataset.edge === '{column}')"
+        page.click(*page.middle(edge), times=2)
+        page.wait_for(f"widthOf({column}) > WIDTH")
+        self.addCleanup(lambda: page.value("localStorage.clear()"))
+
     def keep(self, page, name):
         """Keeps a picture once nothing flashes any more."""
         page.value("new Promise(done => setTimeout(done, 1600))")
         self.assertLess(len(self.keep_picture(page, name)), 60_000)
+
+    def test_something_of_each_kind(self):
+        page = self.window(430, 960)
+        self.fill(*(f"set {cell} {text}" for cell, text in KINDS.items()))
+        self.fill("add B2 12", "add B3 7", "add B4 9", "choose E2 1", "choose E2 3", "choose E3 2", "choose E4 1",
+                  "choose E4 2", "choose E4 5")
+        self.go(page, "B6")
+        page.wait_for("document.getElementById('value').textContent", "= 28")
+        page.wait_for("document.querySelectorAll('.cycle').length", 2)
+        self.assert_shows(page, (6, 5), "32")
+        self.keep(page, "page")
 
     def test_a_plan(self):
         page = self.window(330)
@@ -58,10 +88,7 @@ class Tasks(BrowserTest):
             page.key("Escape")
         self.assert_held("get D6", "val 28")
         page.wait_for("document.querySelector('#cell-' + keyOf(1, 1) + ' .marks').textContent", "MonTue")
-        edge = "[...document.querySelectorAll('.edge')].find(edge => edge.dataset.edge === '1')"
-        page.click(*page.middle(edge), times=2)
-        page.wait_for("widthOf(1) > WIDTH")
-        self.addCleanup(lambda: page.value("localStorage.clear()"))
+        self.widen(page, 1)
         self.go(page, "D6")
         self.keep(page, "plan")
 
@@ -84,7 +111,7 @@ class Tasks(BrowserTest):
         self.keep(page, "vote")
 
     def test_a_budget(self):
-        page = self.window(330)
+        page = self.window(380)
         self.paste(page, "What\tPrice in cents\tHow many\tCents\nCups\t250\t40\t=B2*C2\nCake\t1999\t3\n"
                          "Napkins, \"red\"\t12.50\t100\n\n\"All\nof it\"\t\t\t=SUM(D2:D4)\n")
         self.assert_held("entry D6", "entry =SUM([.D2:.D4])")
@@ -102,6 +129,7 @@ class Tasks(BrowserTest):
         self.go(page, "A8")
         self.rows(page, ("There are", "", "", "150000"), ("Left", "", "", "=D8-D6"))
         self.assert_held("get D9", "val 9003")
+        self.widen(page, 0)
         self.go(page, "D6")
         page.wait_for("document.getElementById('value').textContent", "= 140997")
         self.keep(page, "budget")

@@ -2,7 +2,7 @@
 import re
 import unittest
 
-from pages import blocks, pairs
+from pages import TURNS, blocks, long_sentences, pairs, words_of
 from program import TOP
 
 # The greatest number of words of each page.
@@ -22,17 +22,12 @@ WORDS = {
 }
 # Pages that are still to be shortened: only their links and the names of files are checked.
 UNFINISHED = {"CHANGELOG.md"}
-# The greatest number of words of a sentence.
-SENTENCE = 35
-# What no page says: turns that readers stumble over, and words that the field has others for.
+# What no page says: besides turns that readers stumble over, words that the field has others for.
 NEVER = (
-    "of which", "out of which", "so it is", "(?:is|are|was|were) told", "what is there", "as far as", "that of the one",
-    "who (?:is|are|has|have|wants|comes|looks)", "in the place of", "be it", "lent", "has come", "but for", "no other than",
-    "hand(?:s|ed|ing)? (?:on|out)", "want of", "lack of memory", "growth of memory", "looks? on", "onlookers?", "below the state",
-    "what a crash leaves", "lines? (?:that|to) push", "push lines", "turns that look strange", "wrong bod(?:y|ies)",
-    "settled with", "(?<!21 )seats?", "chairs?", "doors?", "entrances?",
+    *TURNS, "were told", "who have", "lent", "hand(?:s|ed|ing)? out", "handing on", "lack of memory", "onlookers?",
+    "below the state", "what a crash leaves", "lines? (?:that|to) push", "push lines", "turns that look strange",
+    "wrong bod(?:y|ies)", "settled with", "(?<!21 )seats?", "chairs?", "doors?", "entrances?",
 )
-FORBIDDEN = re.compile(rf"\b(?:{'|'.join(NEVER)})\b", re.IGNORECASE)
 # The languages of blocks of commands, and what a name of a file looks like that isn't one alone.
 SHELL = ("", "sh", "bash", "shell", "console")
 FILE = re.compile(r"`((?:docs|bench|tests|crates|release|page)/[\w/.-]+\.(?:md|py|rt|antt|txt|c|js))`")
@@ -72,24 +67,9 @@ def missing_files(text):
     return [file for file in FILE.findall(text) if not PATTERN.search(file) and not (TOP / file).exists()]
 
 
-def unfenced(text):
-    """A page's text without its fenced blocks and indented lines, and with a word in the place of each piece of code."""
-    text = re.sub(r"^```.*?^```$", "", text, flags=re.MULTILINE | re.DOTALL)
-    text = "\n".join("" if line.startswith("    ") else line for line in text.split("\n"))
-    return re.sub(r"`[^`]*`", "X", text)
-
-
-def long_sentences(text):
-    """The sentences of a page's paragraphs and lists that have too many words."""
-    parts = re.split(r"\n\s*\n|\n(?=[-*] |\d+\. )", unfenced(text))
-    prose = [" ".join(part.split()) for part in parts if not part.strip().startswith(("|", "#", "!["))]
-    found = [sentence for part in prose for sentence in re.split(r"(?<=[.:;?!])\s+(?=[A-Z`\"(\[*])", part)]
-    return [sentence for sentence in found if len(sentence.split()) > SENTENCE]
-
-
 def forbidden_words(text):
     """The words of a page that none may have, wherever they stand outside of code."""
-    return [found[0] for found in FORBIDDEN.finditer(" ".join(unfenced(text).split()))]
+    return words_of(NEVER, text)
 
 
 def untested(name, text, tests):

@@ -6,6 +6,8 @@ import time
 from pathlib import Path
 
 import preloaded
+from browser_socket import Ended as ClosedSocket
+from browser_socket import WebSocket, answer, request
 from preloaded import PROGRAM
 from program import LIMIT, Ended, ProgramTest, lines
 from servers import Client, comes_to, serving
@@ -122,9 +124,9 @@ class Turns(ProgramTest):
 
 
 class Waiting(ProgramTest):
-    def test_sixteen_at_a_time_and_the_next_is_told_after_its_wait(self):
+    def test_sixty_four_at_a_time_and_the_next_is_told_after_its_wait(self):
         with serving(None, "--wait", "1") as server:
-            clients = [server.client() for _ in range(16)]
+            clients = [server.client() for _ in range(64)]
             for number, client in enumerate(clients, 1):
                 self.assertEqual(client.ask(f"set A{number} {number}"), f"ok {number}")
             begun = time.monotonic()
@@ -135,9 +137,37 @@ class Waiting(ProgramTest):
             self.assertLess(time.monotonic() - begun, 1 + SOON)
             # the others go on, and a seat that is left is given
             for client in clients:
-                self.assertEqual(client.ask("get A16"), "val 16")
+                self.assertEqual(client.ask("get A64"), "val 64")
             clients[0].leave()
-            self.assertTrue(comes_to(lambda: self.is_answered(server.client(), "get A16", "val 16"), SOON))
+            self.assertTrue(comes_to(lambda: self.is_answered(server.client(), "get A64", "val 64"), SOON))
+
+    def test_256_at_a_time_where_they_are_asked_for(self):
+        with serving(None, "--seats", "256", "--wait", "0") as server:
+            clients = []
+            for number in range(1, 257):
+                clients.append(server.client())
+                self.assertEqual(clients[-1].ask(f"set A{number} {number}"), f"ok {number}")
+            for _ in range(3):
+                self.assertEqual(turned_away(server), NO_SEAT)
+            # the first, one beyond a word's bits, and the last
+            for number in (1, 65, 256):
+                self.assertEqual(clients[number - 1].ask("get A256"), "val 256")
+            # each slot is given again alone: a session that is over ends no other one
+            for number in (65, 1, 256, 129):
+                self.assertEqual(clients[number - 1].leave(), b"")
+                self.assertTrue(comes_to(lambda: self.is_taken(server, clients, number - 1), SOON))
+                self.assertEqual(turned_away(server), NO_SEAT)
+            for client in clients:
+                self.assertEqual(client.ask("get A1"), "val 1")
+
+    def is_taken(self, server, clients, number):
+        """Whether a session gets a slot, and then it has this place among the clients."""
+        client = server.client()
+        client.send(lines("get A256"))
+        if client.reply() != "val 256":
+            return False
+        clients[number] = client
+        return True
 
     def is_answered(self, client, line, reply):
         """Whether a session gets a slot, and this reply to a line; else it is told that there is none."""
@@ -148,7 +178,7 @@ class Waiting(ProgramTest):
         return found == lines(reply)
 
     def test_who_waits_is_told_after_the_time_that_is_asked_for_and_else_after_five_seconds(self):
-        asked = (((), 5), (("--wait", "8"), 8))
+        asked = (((), 5), (("--wait", "6"), 6))
 
         def wait(number):
             words, seconds = asked[number]
@@ -363,6 +393,161 @@ class Idle(ProgramTest):
             self.assertEqual(client.ask("set A1 5"), "ok 1")
             self.assertEqual(turned_away(server), NO_SEAT)
             self.assertEqual(client.ask("get A1"), "val 5")
+
+
+class FirstLine(ProgramTest):
+    """Who never sends a whole line has a slot for half a minute, where no other time is asked for."""
+
+    def test_half_a_line_and_then_nothing(self):
+        # (a wait of half a minute is made ten times shorter: `hasten.c`)
+        library = preloaded.build("hasten.c", self.folder() / "hasten.so")
+        lasting = 30 / 10
+        with serving(None, program=PROGRAM, env=preloaded.before(library)) as server:
+            def is_dropped(sent):
+                client, begun = Client(server.port), time.monotonic()
+                client.send(sent)
+                # (what was begun is no line)
+                self.assertEqual(client.rest(), b"")
+                self.assertGreaterEqual(time.monotonic() - begun, 0.95 * lasting)
+                self.assertLess(time.monotonic() - begun, lasting + SOON)
+
+            def goes_on(sent):
+                client = Client(server.port)
+                for piece in sent:
+                    client.send(piece)
+                    time.sleep(0.3 * lasting)
+                self.assertEqual(client.reply(), "val ")
+                time.sleep(1.5 * lasting)
+                self.assertEqual(client.ask("get A1"), "val ")
+
+            def silent(_):
+                # it takes no slot, and so it may be silent for longer
+                client = Client(server.port)
+                time.sleep(1.5 * lasting)
+                self.assertEqual(client.ask("get A1"), "val ")
+
+            tasks = ((is_dropped, b"set A1"), (is_dropped, b"g"), (goes_on, (b"get A1\n",)),
+                     (goes_on, (b"get ", b"A1", b"\n")), (silent, None))
+            beside(lambda number: tasks[number][0](tasks[number][1]), len(tasks))
+
+
+class Gone(ProgramTest):
+    """A session that waits for changes by `wait` gives its slot up soon after its peer has gone."""
+
+    def test_the_slot_of_one_that_waits_is_free_soon_after_it_has_gone(self):
+        def by_lines(server):
+            client = server.client()
+            client.send(b"wait 0\n")
+            return client
+
+        def by_page(server):
+            socket = WebSocket(server.port)
+            socket.send("wait 0")
+            return socket.connection
+
+        for begin in (by_lines, by_page):
+            for end in (lambda it: it.reset() if hasattr(it, "reset") else it.close(), lambda it: it.close()):
+                with serving(None, "--seats", "1", "--wait", "60") as server:
+                    waits = begin(server)
+                    time.sleep(0.3)
+                    other = server.client()
+                    other.send(b"get A1\n")
+                    self.assertFalse(other.is_answered_within(0.3))
+                    begun = time.monotonic()
+                    end(waits)
+                    self.assertEqual(other.reply(), "val ")
+                    self.assertLess(time.monotonic() - begun, 1 + SOON)
+
+
+class Both(ProgramTest):
+    """Sessions of lines and pages have the same slots."""
+
+    def test_a_hundred_sessions_half_of_which_are_pages(self):
+        count, rounds = 100, 5
+        with serving(None, "--seats", str(count), "--wait", "60") as server:
+            def play(number):
+                name = f"{'AB'[number % 2]}{number // 2 + 1}"
+                if number % 2:
+                    with WebSocket(server.port) as socket:
+                        for value in range(1, rounds + 1):
+                            self.assertRegex(socket.ask(f"set {name} {value}"), r"^ok \d+\n$")
+                            self.assertEqual(socket.ask(f"get {name}"), f"val {value}\n")
+                else:
+                    client = Client(server.port)
+                    for value in range(1, rounds + 1):
+                        self.assertRegex(client.ask(f"set {name} {value}"), r"^ok \d+$")
+                        self.assertEqual(client.ask(f"get {name}"), f"val {value}")
+                    client.leave()
+
+            beside(play, count)
+            client = server.client()
+            self.assertEqual(client.ask("set C1 =SUM([.A1:.B50])"), f"ok {count * rounds + 1}")
+            self.assertEqual(client.ask("get C1"), f"val {count * rounds}")
+
+    def test_the_last_slot_is_wanted_by_a_line_and_a_page_at_the_same_moment(self):
+        with serving(None, "--seats", "2", "--wait", "1") as server:
+            # (with a wait, for the server may not know yet that the session before has ended)
+            holder = server.client()
+            self.assertEqual(holder.ask("set A1 5"), "ok 1")
+            for _ in range(10):
+                told, both = [None, None], threading.Barrier(2)
+
+                def line():
+                    client = Client(server.port)
+                    both.wait()
+                    client.send(b"get A1\n")
+                    told[0] = client.reply()
+                    return client.close
+
+                def page():
+                    both.wait()
+                    try:
+                        socket = WebSocket(server.port)
+                        socket.send("get A1")
+                        told[1] = socket.reply()
+                        return socket.connection.close
+                    except (ConnectionError, ClosedSocket):
+                        told[1] = "closed"
+                        return lambda: None
+
+                ends = [None, None]
+
+                def run(number):
+                    ends[number] = (line, page)[number]()
+
+                beside(run, 2)
+                self.assertIn(tuple(told), {("val 5", "closed"), ("err 21 seat", "val 5\n")})
+                for end in ends:
+                    end()
+                self.assertTrue(comes_to(lambda: self.is_free(server), SOON))
+            self.assertEqual(holder.ask("get A1"), "val 5")
+
+    def is_free(self, server):
+        """Whether there is a free slot."""
+        client = server.client()
+        client.send(b"get A1\n")
+        client.stop_sending()
+        return client.told() == b"val 5\n"
+
+
+class Last(ProgramTest):
+    """Once as many sessions have begun as were asked for."""
+
+    def test_requests_are_answered_and_who_wants_a_slot_is_told(self):
+        with serving(2) as server:
+            first, second = server.client(), server.client()
+            self.assertEqual(first.ask("set A1 5"), "ok 1")
+            self.assertEqual(second.ask("get A1"), "val 5")
+            for _ in range(3):
+                self.assertEqual(answer(server.port, request(server.port))[0], 200)
+                self.assertEqual(answer(server.port, request(server.port, path="/about"))[0], 200)
+                self.assertEqual(turned_away(server), NO_SEAT)
+            first.leave()
+            self.assertEqual(answer(server.port, request(server.port))[0], 200)
+            self.assertEqual(turned_away(server), NO_SEAT)
+            self.assertTrue(server.is_running())
+            second.leave()
+            self.assertEqual(server.ended(), Ended(0, lines("closed 1")))
 
 
 class Many(ProgramTest):

@@ -95,16 +95,16 @@ class Sessions(ProgramTest):
                 reader.leave()
                 self.assertEqual(server.ended(), Ended(0, lines("closed 3")))
 
-    def test_the_most_sessions_at_once(self):
-        with serving(16) as server:
-            clients = [server.client() for _ in range(16)]
+    def test_as_many_sessions_at_once_as_are_served_where_nothing_is_said(self):
+        with serving(64) as server:
+            clients = [server.client() for _ in range(64)]
             for number, client in enumerate(clients, 1):
                 self.assertEqual(client.ask(f"set A{number} {number}"), f"ok {number}")
             for client in clients:
-                self.assertEqual(client.ask("get A16"), "val 16")
+                self.assertEqual(client.ask("get A64"), "val 64")
             for client in clients:
                 self.assertEqual(client.leave(), b"")
-            self.assertEqual(server.ended(), Ended(0, lines("closed 16")))
+            self.assertEqual(server.ended(), Ended(0, lines("closed 64")))
 
     def test_what_one_session_pushes_and_what_another_pushes_again(self):
         with serving(2) as server:
@@ -537,7 +537,7 @@ class CommandLine(ProgramTest):
         for words in ([], ["--sessions", "1"], ["--port", "0", "--sessions", "1"],
                       ["--port", "65536", "--sessions", "1"], ["--port", "7001", "--sessions", "0"],
                       ["--port", "7001", "--sessions", "1000001"], ["--port", "x", "--sessions", "1"],
-                      ["--port", "7001", "--seats", "0"], ["--port", "7001", "--seats", "17"],
+                      ["--port", "7001", "--seats", "0"], ["--port", "7001", "--seats", "257"],
                       ["--port", "7001", "--wait", "61"], ["--port", "7001", "--idle", "0"],
                       ["--port", "7001", "--idle", "86401"], ["--port", "7001", "--sessions"],
                       ["--port", "7001", "--sessions", "1", "--replica", "33"],
@@ -552,5 +552,5 @@ class CommandLine(ProgramTest):
         self.assertEqual(ended.status, 0)
         self.assertIn(b"  sheet serve --port 7001 --sessions 2 --replica 1\n", ended.output)
         for word in (b"--port", b"--sessions", b"--seats", b"--wait", b"--idle", b"--workers", b"--replica",
-                     b"1 to 65535", b"1 to 1000000", b"1 to 16", b"0 to 60", b"1 to 86400", b"1 to 32"):
+                     b"1 to 65535", b"1 to 1000000", b"1 to 256", b"0 to 60", b"1 to 86400", b"1 to 32"):
             self.assertIn(word, ended.output)

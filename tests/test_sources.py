@@ -42,6 +42,12 @@ KNOWN = {
         ("fn from(_error: AllocError) -> KeepFault {", "KeepFault::Memory"): "the conversion of the allocator's error"},
     "ps_peers/src/asking.rt": {
         ("18 => Some(Refusal::Csv),", "19 => Some(Refusal::Memory),"): "the number that a peer replied"},
+    "ps_shorten/src/fault.rt": {
+        ("fn from(_error: AllocError) -> ShortenFault {", "ShortenFault::Memory"): "the conversion of the allocator's error"},
+    "ps_shorten/src/in_place.rt": {
+        ("", "KeepFault::Device => Err(ShortenFault::Memory),"): "the one failure of a file in memory",
+        ("Err(SquashFault::Memory | SquashFault::Source | SquashFault::Sink) => {", "return Err(ShortenFault::Memory);"):
+            "the one failure of a sink over memory"},
     "ps_squash/src/fault.rt": {
         ("fn from(_error: AllocError) -> SquashFault {", "SquashFault::Memory"): "the conversion of the allocator's error"},
     "ps_wire/src/decoder.rt": {("if fault.is_memory() {", "Err(Refusal::Memory)"): "the word of `serde_json`"},
@@ -57,7 +63,7 @@ KNOWN = {
 
 # Each file that makes a meter, and how often: where the program begins to count, and for each worker of a wide level,
 # whose count is added to the level's.
-METERS = {"ps_server/src/attend.rt": 1, "ps_workers/src/level.rt": 1, "sheet/src/main.rt": 4}
+METERS = {"ps_server/src/attend.rt": 1, "ps_workers/src/level.rt": 1, "sheet/src/main.rt": 5}
 
 
 def code_of(text):

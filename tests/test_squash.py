@@ -2,11 +2,17 @@
 
 What the lines hold together, and the text of each line, comes from the plain model of `hunt/deltas.py`.
 """
+import os
 import random
+import resource
+import signal
+import stat
+import subprocess
 import time
 
+import peers
 from hunt.deltas import delta_line, joined_deltas, read_delta
-from program import Ended, ProgramTest, lines, run
+from program import DEVICE_FAILED, LIMIT, Ended, ProgramTest, lines, run, started
 from sizes import COLUMNS, LONGEST_DELTA, LONGEST_LINE, name, pushes
 
 SEED = 39
@@ -212,3 +218,231 @@ class Squash(ProgramTest):
         begin = time.monotonic()
         self.assertEqual(run("squash", given=b"".join(b"push " + text + b"\n" for text in texts)), Ended(0, wanted))
         self.assertLess(time.monotonic() - begin, LONGEST)
+
+
+# What is beside a kept file while it is squashed.
+UNFINISHED = ".squashing"
+EDITS = ("set A1 @tally", *["add A1 2"] * 40, "set B2 @choice", "choose B2 7", "unchoose B2 7", "choose B2 9",
+         *[f"set C{k % 9 + 1} {k}" for k in range(60)], "set D1 =SUM([.C1:.C9])", "set D2 it's \"tea\", \\n")
+LOOKS = lines("replica", "rows A1:D9", "entries A1:D9")
+
+
+class InPlace(ProgramTest):
+    """`squash --keep FILE`."""
+
+    def setUp(self):
+        self.place = self.folder()
+        self.file = self.place / "plan.lines"
+
+    def keep(self, given, *words):
+        """What `run --keep` replies to these lines, and tells."""
+        ended = run("run", "--keep", str(self.file), *words, given=given)
+        self.assertEqual(ended.status, 0)
+        return ended.output, ended.error
+
+    def shown(self, replica=1):
+        """What the kept sheet shows and holds."""
+        return self.keep(LOOKS, "--replica", str(replica))[0]
+
+    def squash(self, **how):
+        """How `squash --keep` ends."""
+        files = {"stdin": subprocess.DEVNULL, "stdout": subprocess.PIPE}
+        with started("squash", "--keep", str(self.file), **files, **how) as session:
+            output, error = session.communicate(timeout=LIMIT)
+            return Ended(session.returncode, output, error)
+
+    def told(self, before, after):
+        """That the file's changes became so many."""
+        return Ended(0, b"", lines(f"squashed {self.file}, {before} changes to {after}"))
+
+    def assert_alone(self):
+        """Nothing is beside the file."""
+        self.assertEqual([path.name for path in self.place.iterdir()], [self.file.name])
+
+    def assert_untouched(self, content, ended):
+        """A file of these bytes isn't squashed, and stays as it was."""
+        self.file.write_bytes(content)
+        before = self.file.stat()
+        self.assertEqual(self.squash(), ended)
+        self.assertEqual(self.file.read_bytes(), content)
+        self.assertEqual((self.file.stat().st_ino, self.file.stat().st_mtime_ns), (before.st_ino, before.st_mtime_ns))
+        self.assert_alone()
+
+    def test_the_sheet_is_the_same_in_fewer_changes(self):
+        """As much as the pipe makes of the file, and once more nothing changes."""
+        for replica in (1, 32):
+            self.file.unlink(missing_ok=True)
+            self.keep(lines(*EDITS), "--replica", str(replica))
+            content, shown = self.file.read_bytes(), self.shown(replica)
+            self.assertEqual(self.squash(), self.told(len(EDITS), 1))
+            small = self.file.read_bytes()
+            self.assertEqual(Ended(0, small), run("squash", given=content))
+            self.assertEqual(small.split(b"\n", 1)[0], b"replica %d" % replica)
+            self.assertEqual(self.shown(replica), shown)
+            self.assert_untouched(small, self.told(1, 1))
+
+    def test_a_sheet_goes_on_with_it(self):
+        """Edits after it are as if it hadn't been."""
+        more = lines("add A1 3", "choose B2 8", "unchoose B2 9", "set C1 7", "set D2 new")
+        self.keep(lines(*EDITS))
+        content = self.file.read_bytes()
+        self.keep(more)
+        shown = self.shown()
+        self.file.write_bytes(content)
+        self.squash()
+        self.keep(more)
+        self.assertEqual(self.shown(), shown)
+
+    def test_others_changes_stay(self):
+        """What several replicas made, pushed in any spelling."""
+        self.keep(lines(*EDITS))
+        theirs = [text for replica in (2, 9) for text in Squash.made(self, random.Random(SEED), replica, 20)]
+        self.keep(b"".join(b"push %s\n" % text.replace(b",", b" , ") for text in theirs))
+        shown = self.shown()
+        self.assertEqual(self.squash().status, 0)
+        self.assertEqual(self.shown(), shown)
+
+    def test_a_torn_end_is_cut_off(self):
+        """As a start does."""
+        self.keep(lines("set A1 5", "set A2 6"))
+        content = self.file.read_bytes()
+        self.file.write_bytes(content + b'push [["A3",[1,1,')
+        self.assertEqual(self.squash(), self.told(2, 1))
+        self.assertEqual(self.file.read_bytes(), run("squash", given=content).output)
+
+    def test_a_file_without_changes(self):
+        for content in (b"", b"replica 1\n", b"replica 9\n"):
+            self.assert_untouched(content, self.told(0, 0))
+
+    def test_what_a_start_refuses(self):
+        """By the first line that is wrong; the file stays, to the byte."""
+        first, push = b"replica 1\n", b'push [["A1",[1,1,"5"],[],[]]]\n'
+        for content, number in (
+                (b"hello", 1), (push, 1), (b"\n" + first + push, 1), (b"replica 33\n", 1), (b"replica 1\r\n" + push, 1),
+                (first + push + push, 3), (first + push + b"\n" + push, 3), (first + first, 2), (first + b"set A1 5\n", 2),
+                (first + push[5:], 2), (first + push + b"push [[\n", 3),
+                # (which a start takes, and no law says that it is read as the line without it)
+                (first + push[:-1] + b"\r\n", 2)):
+            with self.subTest(content=content):
+                self.assert_untouched(content, Ended(3, b"", lines("err 14 delta", f"line {number} of {self.file}")))
+
+    def test_what_is_no_file(self):
+        self.assertEqual(self.squash(), Ended(1, b"", DEVICE_FAILED))
+        self.assertEqual(list(self.place.iterdir()), [])
+        self.file.mkdir()
+        self.assertEqual(self.squash(), Ended(1, b"", DEVICE_FAILED))
+        self.assertEqual(list(self.file.iterdir()), [])
+
+    def test_a_file_that_another_program_keeps(self):
+        """It is refused by name; once the other one has ended it is squashed."""
+        files = {"stdin": subprocess.PIPE, "stdout": subprocess.PIPE}
+        with started("run", "--keep", str(self.file), **files) as session:
+            peer = peers.Peer(session, session.stdin.fileno(), session.stdout.fileno())
+            for number in (1, 2, 3):
+                self.assertEqual(peer.ask(f"set A1 {number}"), f"ok {number}")
+            content = self.file.read_bytes()
+            busy = Ended(1, b"", DEVICE_FAILED + lines(f"{self.file} is kept by another program"))
+            self.assertEqual(self.squash(), busy)
+            self.assertEqual(self.file.read_bytes(), content)
+            self.assert_alone()
+            self.assertEqual(peer.ask("set A1 4"), "ok 4")
+            session.stdin.close()
+            session.stdin = None
+            session.wait(LIMIT)
+        self.assertEqual(self.squash(), self.told(4, 1))
+
+    def test_its_rights_and_its_link_stay(self):
+        """The new file has the old one's rights, and a link to it stays a link."""
+        self.keep(lines("set A1 5", "set A1 6"))
+        self.file.chmod(0o640)
+        target = self.place / "other"
+        self.file.rename(target)
+        self.file.symlink_to(target.name)
+        self.assertEqual(self.squash(), self.told(2, 1))
+        self.assertTrue(self.file.is_symlink())
+        self.assertEqual(stat.S_IMODE(target.stat().st_mode), 0o640)
+        self.assertEqual(target.read_bytes(), b'replica 1\npush [["A1",[2,1,"6"],[],[]]]\n')
+        self.assertEqual(len(list(self.place.iterdir())), 2)
+
+    def test_a_disk_that_is_full(self):
+        """The file stays, and nothing is left beside it."""
+        self.keep(lines(*(f"set A{row} {'x' * 60}" for row in range(1, 200)), "set A1 5"))
+        content = self.file.read_bytes()
+
+        def limit():
+            signal.signal(signal.SIGXFSZ, signal.SIG_IGN)
+            resource.setrlimit(resource.RLIMIT_FSIZE, (5000, 5000))
+
+        self.assertEqual(self.squash(preexec_fn=limit), Ended(1, b"", DEVICE_FAILED))
+        self.assertEqual(self.file.read_bytes(), content)
+        self.assert_alone()
+
+    def test_killed_at_any_moment(self):
+        """The file is the old one or the new one, whole; what an earlier one left is replaced."""
+        pushes = b"".join(b'push [["%s",[%d,1,"%d"],[],[]]]\n' % (name(k % 50, k // 50 % 10 + 1).encode(), k + 1, k)
+                          for k in range(8_000))
+        old = b"replica 1\n" + pushes
+        new = run("squash", given=old).output
+        chance = random.Random(SEED)
+        self.file.write_bytes(old)
+        begin = time.monotonic()
+        self.assertEqual(self.squash(), self.told(8_000, 1))
+        longest = time.monotonic() - begin
+        words, found = ("squash", "--keep", str(self.file)), []
+        for _ in range(30):
+            self.file.write_bytes(old)
+            with started(*words, stdin=subprocess.DEVNULL, stdout=subprocess.DEVNULL) as session:
+                time.sleep(chance.random() * longest * 1.1)
+                if session.poll() is None:
+                    os.killpg(session.pid, signal.SIGKILL)
+            found.append(self.file.read_bytes())
+            self.assertIn(found[-1], (old, new))
+            beside = {path.name for path in self.place.iterdir()} - {self.file.name}
+            self.assertLessEqual(beside, {self.file.name + UNFINISHED})
+        self.assertIn(old, found)
+        # a piece that an earlier one left
+        (self.place / (self.file.name + UNFINISHED)).write_bytes(old * 2)
+        self.file.write_bytes(old)
+        self.assertEqual(self.squash(), self.told(8_000, 1))
+        self.assertEqual(self.file.read_bytes(), new)
+        self.assert_alone()
+
+    def test_squashed_at_the_start(self):
+        """With `--squash`, where that makes the file at most half as long."""
+        edits = lines(*EDITS)
+        self.keep(edits)
+        shown = self.shown()
+        replies, told = self.keep(LOOKS, "--squash")
+        self.assertEqual((replies, told), (shown, lines(f"opened {self.file}, 1 changes")))
+        self.assertEqual(self.file.read_bytes().count(b"\n"), 2)
+        self.assert_alone()
+        # two of three changes stay, so it isn't half as long
+        self.file.unlink()
+        self.keep(lines("set A1 5", "set B1 6", "set A1 7"))
+        content = self.file.read_bytes()
+        self.assertEqual(self.keep(b"get A1\n", "--squash"), (b"val 7\n", lines(f"opened {self.file}, 3 changes")))
+        self.assertEqual(self.file.read_bytes(), content)
+        # .. and where there is none yet
+        self.file.unlink()
+        self.assertEqual(self.keep(b"", "--squash"), (b"", lines(f"opened {self.file}, 0 changes")))
+
+    def test_a_way_back(self):
+        """The first lines of a kept file are the sheet as it was then, whatever was pushed after them."""
+        self.keep(lines(*EDITS))
+        shown, count = self.shown(), self.file.read_bytes().count(b"\n")
+        self.keep(lines('push [["A1",[1000000000,9,"0"],[],[]],["C1",[1000000000,9,"0"],[],[]]]', "add A1 7"))
+        self.assertNotEqual(self.shown(), shown)
+        ended = subprocess.run(["head", "-n", str(count), self.file], stdout=subprocess.PIPE, check=True, timeout=LIMIT)
+        self.file.write_bytes(ended.stdout)
+        self.assertEqual(self.shown(), shown)
+        self.assertEqual(self.squash(), self.told(len(EDITS), 1))
+        self.assertEqual(self.shown(), shown)
+
+    def test_a_start_that_is_refused_squashes_nothing(self):
+        """Of another replica, and with a line that may not stand there."""
+        self.keep(lines(*EDITS), "--replica", "3")
+        content = self.file.read_bytes()
+        for words, more in ((("--replica", "2"), b""), (("--replica", "3"), b"x\n")):
+            self.file.write_bytes(content + more)
+            self.assertEqual(run("run", "--keep", str(self.file), "--squash", *words).status, 3)
+            self.assertEqual(self.file.read_bytes(), content + more)

@@ -24,10 +24,11 @@ COMMANDS = {
     "sync": "one replica has to another", "follow": "lines to push", "talk": "asks a server",
     "squash": "few push lines",
 }
-WITHOUT_NUMBER = ("--keep", "--explain", "--strict", "--entries", "--until-now", "--title")
+WITHOUT_NUMBER = ("--keep", "--squash", "--explain", "--strict", "--entries", "--until-now", "--title")
 WHY_NO_PORT = dict.fromkeys(("serve", "sync", "follow", "talk"), "why a port")
 OPTIONS = {
-    "--workers": "threads", "--replica": "of this replica", "--strict": "status 3", "--keep": "kept in",
+    "--workers": "threads", "--replica": "of this replica", "--strict": "status 3", "--squash": "half as long",
+    "--keep": {"run": "kept in", "serve": "kept in", "squash": "in its place"},
     "--entries": "entries", "--port": "listen", "--sessions": "before it ends", "--seats": "to serve at a time",
     "--wait": "wait for a seat", "--idle": "sends nothing", "--until-now": "ends once", "--every": "milliseconds",
     "--title": "title of the page", "--to": {"sync": "takes them in", "talk": "is asked"},

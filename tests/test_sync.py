@@ -173,6 +173,13 @@ class RefusedRequests(Syncing):
         first, second = self.peer(in_turn(lines(said))), self.peer(in_turn())
         self.assertEqual(self.sync(first, second), Ended(3, b"", lines(said)))
 
+    def test_the_line_of_a_peer_commands_no_terminal(self):
+        """Its control characters are spelled out: those below 32, 127, and 128 to 159."""
+        said = "err 99 \x1b[2J\a\x7f\x80\x9b31m\xa0ä\u202f"
+        told = r"err 99 \u{1b}[2J\u{7}\u{7f}\u{80}\u{9b}31m" + "\xa0ä\u202f"
+        first, second = self.peer(in_turn(lines(said))), self.peer(in_turn())
+        self.assertEqual(self.sync(first, second), Ended(3, b"", lines(told)))
+
 
 class Connections(Syncing):
     def test_a_port_on_which_nothing_listens(self):

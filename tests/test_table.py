@@ -1,6 +1,7 @@
 """The command `table`: a table of entries in, the table of their settled values out."""
 import csv
 import io
+import time
 
 from program import Ended, ProgramTest, lines, run
 from sizes import COLUMNS, LARGEST_TABLE
@@ -94,6 +95,29 @@ class Shape(ProgramTest):
 
     def test_a_table_of_the_most_bytes(self):
         self.assertEqual(run("table", stdin=self.file_of(b"\n" * LARGEST_TABLE)), Ended(0))
+
+
+class Settled(ProgramTest):
+    def timed(self, records):
+        """The seconds that a table of these records takes, the least of three, and what it shows."""
+        given, best = lines(*records), None
+        for _ in range(3):
+            begun = time.monotonic()
+            ended = run("table", given=given)
+            took = time.monotonic() - begun
+            best = took if best is None else min(best, took)
+        self.assertEqual((ended.status, ended.error), (0, b""))
+        return best, ended.output
+
+    def test_values_are_settled_once_for_all_records(self):
+        # each on the one below, the newest on top: settled at each record, the last would be the 800th evaluation of A1
+        count = 800
+        chain = [f"=[.A{row + 1}]+1" for row in range(1, count)] + ["1"]
+        plain, shown = self.timed(["1"] * count)
+        self.assertEqual(shown, lines(*["1"] * count))
+        took, shown = self.timed(chain)
+        self.assertEqual(shown, lines(*range(count, 0, -1)))
+        self.assertLess(took, 8 * plain + 0.3)
 
 
 class Refused(ProgramTest):

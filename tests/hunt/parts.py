@@ -5,7 +5,8 @@ import browser
 from program import NO_BROWSER
 
 from . import (
-    channels, pages, processes, replicas, replicas_by_chance, runs, sessions, sessions_by_chance, shortages, themes,
+    channels, costs, pages, processes, replicas, replicas_by_chance, runs, sessions, sessions_by_chance, shortages,
+    themes,
 )
 
 DIFFERS = """\
@@ -153,4 +154,24 @@ class Pages(Part):
         return pages.trouble(plan, self.counts, self.fault)
 
 
-PARTS = (Scripts, Replicas, Sessions, Faults, Pages)
+class Costs(Part):
+    """The dearest change lines, made of the dearest before."""
+
+    name = "costs"
+
+    def __init__(self, start=None):
+        super().__init__()
+        self.start = start or (lambda: costs.Timed(runs.PROGRAM))
+        self.dearest = costs.Dearest()
+
+    def told(self):
+        return f" (the dearest: {self.dearest.most})"
+
+    def plan(self, seed, number):
+        return self.dearest.plan(seed, number)
+
+    def trouble(self, plan):
+        return costs.trouble(plan, self.start, self.dearest)
+
+
+PARTS = (Scripts, Replicas, Sessions, Faults, Costs, Pages)

@@ -34,6 +34,9 @@ def first_reply(received, place=0):
 class Process:
     """A session of `run`."""
 
+    # How many seconds a reply may take.
+    patience = LIMIT
+
     def __init__(self, program, *words):
         files = {"stdin": subprocess.PIPE, "stdout": subprocess.PIPE, "stderr": subprocess.PIPE}
         self.session = subprocess.Popen([program, "run", *words], bufsize=0, start_new_session=True, **files)
@@ -44,12 +47,12 @@ class Process:
             self.session.stdin.write(line + b"\n")
         except BrokenPipeError:
             raise Gone(f"it ended with {self.end()}") from None
-        reply, deadline = b"", time.monotonic() + LIMIT
+        reply, deadline = b"", time.monotonic() + self.patience
         while not first_reply(reply):
             ready, _, _ = select.select([self.session.stdout], [], [], max(0, deadline - time.monotonic()))
             piece = os.read(self.session.stdout.fileno(), PIECE) if ready else b""
             if not piece:
-                why = f"it ended with {self.end()}" if ready else f"no reply within {LIMIT} seconds"
+                why = f"it ended with {self.end()}" if ready else f"no reply within {self.patience} seconds"
                 raise Gone(f"{why}, after {reply[-200:]!r}")
             reply += piece
         return reply[:-1]

@@ -3,7 +3,7 @@ ghost use Rattle.std.specs.Prelude.{◌≡◌};
 ghost use Rattle.ps_grid.specs.Blanks.{IsBlankOf};
 ghost use Rattle.ps_desk.specs.Opening.{IsNamed};
 
-use ps_desk::{Desk, DeskName, Parts};
+use ps_desk::{Desk, DeskName, Parts, Presence};
 use ps_device::{Reading, Writing};
 use ps_eval::Meter;
 use ps_grid::Refusal;
@@ -16,9 +16,17 @@ use std::sync::Wait;
 use std::sync::ledger::Ledger;
 use std::test::Fail;
 use std::thread::Threads;
+use std::time::Clock;
 
-/// What the session of a desk's last seat writes, where these are its lines, and how many lines it answered.
-fn answered<L: DeskName, R: Threads + Wait + Sync, I: Ledger, O: Ledger, N: Ledger, M: Ledger>(
+/// Returns what the session of a desk's last slot writes for these lines, and the number of lines it answered.
+fn answered<
+    L: DeskName,
+    R: Threads + Wait + Clock + Sync,
+    I: Ledger,
+    O: Ledger,
+    N: Ledger,
+    M: Ledger,
+>(
     rt: &R,
     alloc: Global,
     parts: Parts,
@@ -42,15 +50,20 @@ fn answered<L: DeskName, R: Threads + Wait + Sync, I: Ledger, O: Ledger, N: Ledg
     let writing = Writing::<&mut Vec<u8>, O>::new(&mut written, counts.output);
     let mut sink = HeldOutput::<Writing<&mut Vec<u8>, O>, N>::new(alloc, writing, counts.held);
     let mut meter = Meter::<M>::new(counts.evaluations);
-    let at = DeskSeat { desk: &desk, pass };
+    let presence = Presence::none();
+    let at = DeskSeat {
+        desk: &desk,
+        pass,
+        presence,
+    };
     let resources = Resources { threads: rt, alloc };
     let attended = attend_lines(resources, &mut source, &mut sink, at, &mut meter);
     drop(sink);
     Ok((written, attended.ended.ok()))
 }
 
-/// .. of a desk of two seats over an empty sheet.
-fn replies<R: Threads + Wait + Sync>(
+/// Returns the replies to these lines at a desk of two slots over an empty sheet.
+fn replies<R: Threads + Wait + Clock + Sync>(
     rt: &R,
     alloc: Global,
     lines: &[u8],
@@ -59,7 +72,7 @@ fn replies<R: Threads + Wait + Sync>(
     answered::<Brand, R, Brand, Brand, Brand, Brand>(rt, alloc, parts, Counts::new(), lines)
 }
 
-/// Each line of a session at a desk is answered, an empty one isn't, and the last one wants no line feed.
+/// Each line of a session at a desk is answered, except an empty one. The last one needs no line feed.
 #[test]
 fn a_session_at_a_desk(rt: HostRuntime) -> Result<(), Fail> {
     let lines = b"set A1 5\r\nset B1 =[.A1]*2\n\nget B1\nadd A1 1\npull 0 2\nwalk";

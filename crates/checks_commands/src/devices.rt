@@ -35,7 +35,7 @@ impl Read for Given<'_> {
     }
 }
 
-/// A writer that keeps what it is given, for so many calls, and then fails.
+/// A writer that stores what it gets, for so many calls, and then fails.
 #[derive(Drop)]
 struct Keeper<'a> {
     kept: &'a RefCell<Vec<u8>>,
@@ -94,7 +94,7 @@ fn ended<R: Threads + Sync, I: Ledger, O: Ledger, M: Ledger>(
     })
 }
 
-/// The session of a reader, whose replies a cell keeps.
+/// Runs the session of a reader, and stores its replies in a cell.
 fn session<R: Threads + Sync>(
     rt: &R,
     alloc: Global,
@@ -112,8 +112,10 @@ fn session<R: Threads + Sync>(
     )
 }
 
-/// The session of three edits on a writer that fails after so many calls: it ends with the sink's failure, what was
-/// written is a beginning of the replies, and the sheet is that of the lines up to the one whose reply was cut.
+/// Returns whether a session of three edits, on a writer that fails after so many calls, ends as it must.
+///
+/// It ends with the sink's failure, and what was written is a beginning of the replies. The sheet is that of the lines
+/// up to the one whose reply was cut.
 fn ends_after<R: Threads + Sync>(rt: &R, alloc: Global, calls: usize) -> Result<bool, Refusal> {
     let due = b"ok 1\nok 2\nok 3\n";
     let kept = RefCell::new(Vec::new(alloc));

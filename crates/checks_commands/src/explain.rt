@@ -1,4 +1,4 @@
-//! What is told of lines and of the fields of a table while they are taken in.
+//! Notes about lines and about the fields of a table, written while they are read.
 ghost use Rattle.std.specs.Prelude.{◌≡◌};
 ghost use Rattle.ps_grid.specs.Blanks.{IsBlankOf};
 
@@ -16,7 +16,7 @@ use std::sync::ledger::Ledger;
 use std::test::Fail;
 use std::thread::Threads;
 
-/// Tables, with what is told of them: nothing after the first field that is refused.
+/// Tables with their notes. None follows the note about the first refused field.
 const TABLES: [(&str, &str); 4] = [
     ("", ""),
     ("7,=[.A1]\n'1.5,apples\n", ""),
@@ -33,13 +33,13 @@ const TABLES: [(&str, &str); 4] = [
     ),
 ];
 
-/// What an onlooker tells while a table is taken in.
+/// Returns the notes that an onlooker writes while a table is read.
 fn told_of<R: Threads + Sync>(rt: &R, alloc: Global, table: &[u8]) -> Vec<u8> {
     let counts = Counts::new();
     told_counted::<R, Brand, Brand, Brand>(rt, alloc, table, counts)
 }
 
-/// The same, where these blanks count.
+/// Returns the same, with blanks for the counts.
 fn told_counted<R: Threads + Sync, I: Ledger, O: Ledger, M: Ledger>(
     rt: &R,
     alloc: Global,
@@ -70,7 +70,7 @@ fn told_counted<R: Threads + Sync, I: Ledger, O: Ledger, M: Ledger>(
     onlooker.into_out().unwrap_or(Vec::new(alloc))
 }
 
-/// Each field that has a hint is told with its place.
+/// Each field that has a hint gets a note with its place.
 #[test]
 fn fields_are_told(rt: HostRuntime) -> Result<(), Fail> {
     for (table, told) in TABLES {
@@ -80,7 +80,7 @@ fn fields_are_told(rt: HostRuntime) -> Result<(), Fail> {
     Ok(())
 }
 
-/// An onlooker counts the refused lines, told or not, and they are a fault of a strict session alone.
+/// An onlooker counts the refused lines, with or without a writer. They are a fault of a strict session alone.
 #[test]
 fn refused_lines_are_counted(rt: HostRuntime) -> Result<(), Fail> {
     let mut onlooker = Onlooker::<Vec<u8>>::new(rt.alloc(), None);

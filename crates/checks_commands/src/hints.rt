@@ -1,4 +1,4 @@
-//! What is told of lines and entries: what people write by habit, and the hint that it has.
+//! Notes about lines and entries: what people write by habit, and the hint about it.
 
 use ps_grid::{Cell, Refusal};
 use ps_hints::{field_note, line_note};
@@ -6,7 +6,7 @@ use ps_lines::Verb;
 use std::alloc::{AllocError, Global};
 use std::test::Fail;
 
-/// The note about line 7, or nothing.
+/// Returns the note about line 7, or nothing.
 fn told(alloc: Global, line: &str, refusal: Option<Refusal>) -> Result<String, AllocError> {
     match line_note(7, line.as_bytes(), refusal) {
         Some(note) => format!(in alloc; "{note}"),
@@ -14,7 +14,7 @@ fn told(alloc: Global, line: &str, refusal: Option<Refusal>) -> Result<String, A
     }
 }
 
-/// Formulas that are none, with what the hint says.
+/// Invalid formulas, with their hints.
 const FORMULAS: [(&str, &str); 36] = [
     ("=A1+1", "A1 is written [.A1]"),
     ("=$B$2", "$B$2 is written [.$B$2]"),
@@ -76,7 +76,7 @@ const FORMULAS: [(&str, &str); 36] = [
     ("=1 2", "a formula is written like =SUM([.A1:.A3])*2"),
 ];
 
-/// The hint of each formula that is none.
+/// Each invalid formula has its hint.
 #[test]
 fn formulas_have_hints(rt: HostRuntime) -> Result<(), Fail> {
     for (formula, hint) in FORMULAS {
@@ -88,7 +88,7 @@ fn formulas_have_hints(rt: HostRuntime) -> Result<(), Fail> {
     Ok(())
 }
 
-/// Entries that are kept as texts and look like something else, with what the hint says; none where it says nothing.
+/// Entries that are stored as texts and look like something else, with their hints; an empty hint means none.
 const TEXTS: [(&str, &str); 27] = [
     ("12.50", "12.50 is kept as a text: numbers are whole"),
     ("1,200", "1,200 is kept as a text: numbers have no commas"),
@@ -156,7 +156,7 @@ const TEXTS: [(&str, &str); 27] = [
     ("", ""),
 ];
 
-/// The hint of each entry that looks like a number or a formula and is a text; none of others.
+/// An entry that looks like a number or a formula and is a text has a hint. Others have none.
 #[test]
 fn texts_that_look_otherwise(rt: HostRuntime) -> Result<(), Fail> {
     let cell = Cell::new(2, 10).ok_or("a cell")?;
@@ -173,7 +173,7 @@ fn texts_that_look_otherwise(rt: HostRuntime) -> Result<(), Fail> {
     Ok(())
 }
 
-/// Lines that are refused, with what is told.
+/// Refused lines, with their notes.
 const LINES: [(&str, Refusal, &str); 34] = [
     ("get a1", Refusal::Cell, "1 cell: a1 is written A1"),
     ("get A1025", Refusal::Cell, "1 cell: cells are A1 to CZ1024"),
@@ -293,7 +293,7 @@ const LINES: [(&str, Refusal, &str); 34] = [
         "walk A1",
         Refusal::Command,
         "16 command: walk is no verb; the verbs are get, set, add, sub, choose, unchoose, rows, \
-            entry, entries, push, merge, pull, replica",
+            entry, entries, push, merge, pull, replica, wait",
     ),
     (
         "add A1",
@@ -332,7 +332,7 @@ const LINES: [(&str, Refusal, &str); 34] = [
     ),
 ];
 
-/// What is told of each refused line.
+/// Each refused line has its note.
 #[test]
 fn refused_lines_have_hints(rt: HostRuntime) -> Result<(), Fail> {
     for (line, refusal, hint) in LINES {
@@ -343,7 +343,7 @@ fn refused_lines_have_hints(rt: HostRuntime) -> Result<(), Fail> {
     Ok(())
 }
 
-/// The note about the field of C10, or nothing.
+/// Returns the note about the field of C10, or nothing.
 fn told_of_field(
     alloc: Global,
     field: &[u8],
@@ -358,7 +358,7 @@ fn told_of_field(
     }
 }
 
-/// A text and an entry that are too long tell how many bytes they have, and of how many.
+/// The note about a text or an entry that is too long says how many bytes it has, and how many it may have.
 #[test]
 fn lengths_are_told(rt: HostRuntime) -> Result<(), Fail> {
     let entry = [b'x'; 513];

@@ -1,7 +1,7 @@
-//! The tests of `ps_commands`, `ps_server`, `ps_words` and `ps_hints`, by their public items: a session at a desk,
-//! devices that fail, the command line and its help, hints, and lines that are squashed.
+//! Tests of `ps_commands`, `ps_server`, `ps_words` and `ps_hints`, by their public items.
 //!
-//! They stand apart since a crate with tests is proved twice. Nothing stands on this crate.
+//! They test a session at a desk, devices that fail, the command line and its help, hints, and squashed lines. They are
+//! a crate of their own, since a crate with tests is proved twice. No crate depends on this one.
 #![tactic(auto)]
 
 #[cfg(test)]

@@ -8,7 +8,7 @@ use std::marker::Brand;
 use std::sync::ledger::{Blank, Ledger};
 use std::test::Fail;
 
-/// What is written for these bytes.
+/// Returns what is written for these bytes.
 fn squashed(alloc: Global, given: &[u8]) -> Result<Vec<u8>, ProgramFault> {
     written::<Brand, Brand>(alloc, given, Blank::new(1), Blank::new(1))
 }
@@ -30,7 +30,7 @@ fn written<I: Ledger, O: Ledger>(
     Ok(bytes)
 }
 
-/// Whether this is written for these bytes.
+/// Returns whether `due` is written for these bytes.
 fn writes(alloc: Global, given: &[u8], due: &[u8]) -> bool {
     match squashed(alloc, given) {
         Ok(text) => text.as_slice() == due,
@@ -51,7 +51,7 @@ push [[\"B1\",null,[],[[7,1,1,1]]],[\"C1\",[2,1,\"6\"],[],[]]]\n[[\"C1\",[1,9,\"
     Ok(())
 }
 
-/// The third line is no delta's: the fault has its number, and its text tells it below the refusal.
+/// The third line is no delta's: the fault has its number, and the fault's text has it below the refusal.
 #[test]
 fn a_faulty_line_is_told(rt: HostRuntime) -> Result<(), Fail> {
     let given = b"[[\"A1\",[1,2,\"5\"],[],[]]]\n\n[[\"A1\",[1,33,\"5\"],[],[]]]\n";

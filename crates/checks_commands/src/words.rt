@@ -13,8 +13,10 @@ fn words(alloc: Global, line: &str) -> Result<Vec<String>, AllocError> {
     Ok(words)
 }
 
-/// Two numbers of `run`, `sync` or `serve`, or that of `table` or `talk` and 0, or of `follow` the port and the pause,
-/// which is 0 here where it isn't until now; or the exit status that `clap` gives.
+/// Returns two numbers of a command, or the exit status that `clap` gives.
+///
+/// They are two numbers of `run`, `sync` or `serve`, one of `table` or `talk` and 0, or the port and the pause of
+/// `follow`. The pause is 0 here without `--until-now`.
 fn numbers(alloc: Global, line: &str) -> Result<Result<(u16, u16), i32>, AllocError> {
     let words = words(alloc, line)?;
     Ok(match read_words(alloc, words.as_slice()) {
@@ -28,7 +30,7 @@ fn numbers(alloc: Global, line: &str) -> Result<Result<(u16, u16), i32>, AllocEr
         Ok(Options::Follow(options)) if options.until_now => Ok((options.from, options.every)),
         Ok(Options::Follow(options)) => Ok((options.from, 0)),
         Ok(Options::Talk(options)) => Ok((options.to, 0)),
-        Ok(Options::Squash) => Ok((0, 0)),
+        Ok(Options::Squash(_)) => Ok((0, 0)),
         Err(error) => Err(error.exit_code()),
     })
 }
@@ -40,7 +42,8 @@ fn options_are_read(rt: HostRuntime) -> Result<(), Fail> {
         ("sheet run", (1, 1)),
         ("sheet table --workers=16", (16, 0)),
         ("sheet run --workers 16 --replica=32", (16, 32)),
-        ("sheet serve --port 65535", (16, 5)),
+        ("sheet serve --port 65535", (64, 5)),
+        ("sheet serve --port 1 --seats 256", (256, 5)),
         ("sheet serve --seats=2 --port 1 --wait 0", (2, 0)),
         ("sheet sync --to=65535 --from 1", (1, 65535)),
         ("sheet squash", (0, 0)),
@@ -172,12 +175,12 @@ sheet table --strict
 sheet table --keep plan.lines
 sheet run --keep
 sheet run --keep a --keep b
-sheet squash --keep plan.lines
+sheet squash --keep
 sheet serve --sessions 1
 sheet serve --port=1 --sessions=0
 sheet serve --port=1 --sessions=1000001
 sheet serve --port=1 --seats=0
-sheet serve --port=1 --seats=17
+sheet serve --port=1 --seats=257
 sheet serve --port=1 --wait=61
 sheet serve --port=1 --idle=0
 sheet serve --port=1 --idle=86401

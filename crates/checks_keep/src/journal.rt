@@ -1,4 +1,4 @@
-//! What no clause says: that calls succeed, and that files of the system are what they are told.
+//! What no clause says: calls succeed, and system files hold what is written to them.
 
 use crate::lent::{LentDevice, LentFile, no_device};
 use ps_keep::{FileFault, FoundFile, Journal, MemoryDevice, MemoryFile, first_line, open};
@@ -6,7 +6,7 @@ use std::alloc::{AllocError, Global};
 use std::fs;
 use std::test::Fail;
 
-/// A file of memory of these bytes, whose calls go well so often.
+/// A file of memory with these bytes; the first `calls` calls of its device succeed.
 fn file(alloc: Global, bytes: &[u8], calls: u64) -> Result<MemoryFile, AllocError> {
     Ok(MemoryFile {
         bytes: bytes.to_vec(alloc)?,
@@ -14,7 +14,7 @@ fn file(alloc: Global, bytes: &[u8], calls: u64) -> Result<MemoryFile, AllocErro
     })
 }
 
-/// The journal of such a file, if it is opened, with its device in this place.
+/// The journal of such a file, if it opens. Its device is put at `place`.
 fn opened<'a>(
     alloc: Global,
     bytes: &[u8],
@@ -28,7 +28,7 @@ fn opened<'a>(
     }
 }
 
-/// Two whole lines, one of them empty, and a piece: the lines are read, the piece is not.
+/// Two whole lines, one of them empty, and a piece: the lines are read, and the piece isn't.
 #[test]
 fn lines_are_read(rt: HostRuntime) -> Result<(), Fail> {
     let mut read = Vec::new(rt.alloc());
@@ -46,7 +46,7 @@ fn lines_are_read(rt: HostRuntime) -> Result<(), Fail> {
     Ok(())
 }
 
-/// Two whole lines and a piece: the file is the lines, and what is synced after them.
+/// Two whole lines and a piece: the file then holds the lines, and after them what is synced.
 #[test]
 fn the_torn_end_is_cut(rt: HostRuntime) -> Result<(), Fail> {
     let alloc = rt.alloc();
@@ -63,8 +63,8 @@ fn the_torn_end_is_cut(rt: HostRuntime) -> Result<(), Fail> {
     Ok(())
 }
 
-/// A crash amid a sync leaves none, a part or all of what was written: the next start reads the line where all is
-/// there, and no line else.
+/// A crash amid a sync leaves none, a part or all of the bytes written. The next start reads the line if all its bytes
+/// are there, and no other line.
 #[test]
 fn a_crash_leaves_a_beginning(rt: HostRuntime) -> Result<(), Fail> {
     let alloc = rt.alloc();
@@ -87,7 +87,7 @@ fn a_crash_leaves_a_beginning(rt: HostRuntime) -> Result<(), Fail> {
     Ok(())
 }
 
-/// The third call fails, a sync; from then on each sync does.
+/// The third call, a sync, fails; from then on each sync fails.
 #[test]
 fn a_failed_sync_stops_the_journal(rt: HostRuntime) -> Result<(), Fail> {
     let alloc = rt.alloc();
@@ -103,7 +103,7 @@ fn a_failed_sync_stops_the_journal(rt: HostRuntime) -> Result<(), Fail> {
     Ok(())
 }
 
-/// Lines that are synced stand in the file; while a journal has it nobody else opens it; a torn end is cut off it. A
+/// Synced lines are in the file. Nobody else opens the file while a journal has it, and its torn end is cut off. A
 /// folder is no file.
 #[test]
 fn a_file_of_the_system(rt: HostRuntime) -> Result<(), Fail> {

@@ -1,4 +1,5 @@
-//! A file of memory whose device is lent, so that a test sees what it has once nobody writes to it any more.
+//! A file of memory whose device stays with the test, so that the test sees its bytes once nobody writes there any
+//! more.
 
 ghost use Rattle.std.specs.Prelude.{false};
 
@@ -6,7 +7,7 @@ use ps_device::Failed;
 use ps_keep::{Device, Found, MemoryDevice, MemoryFile};
 use std::alloc::Global;
 
-/// A device without a byte, to be lent to a [`LentFile`].
+/// A device without a byte, as the place of a [`LentFile`].
 pub(crate) fn no_device(alloc: Global) -> MemoryDevice {
     MemoryDevice {
         bytes: Vec::new(alloc),
@@ -40,7 +41,7 @@ impl<'a> Found for LentFile<'a> {
     }
 }
 
-/// A device of memory that is lent.
+/// A device of memory that belongs to the test.
 #[derive(Drop)]
 pub(crate) struct LentDevice<'a> {
     device: &'a mut MemoryDevice,

@@ -1,9 +1,10 @@
-//! The tests of `ps_keep` and `ps_kept`, by their public items.
+//! Tests of `ps_keep` and `ps_kept`, by their public items.
 //!
-//! `journal` has the lines of a file and its torn end, a device that fails, and a file of the system; `sheet` a sheet
-//! that is kept, with a crash at every call and every byte. `lent` has the device of memory that both look at.
+//! - `journal` tests the lines of a file and its torn end, a device that fails, and a file of the system.
+//! - `sheet` tests a durable sheet, with a crash at every call and every byte.
+//! - `lent` has the memory device that both look at.
 //!
-//! They stand apart since a crate with tests is proved twice. Nothing stands on this crate.
+//! They are a crate of their own, as a crate with tests is proved twice. No other crate uses it.
 #![tactic(auto)]
 
 #[cfg(test)]

@@ -1,5 +1,5 @@
-//! A sheet that is kept: which bytes its file has, and what a start reads after a crash anywhere. The expected lines
-//! are worked by hand from the rules of edits and of delta lines.
+//! A durable sheet: the bytes of its file, and what a start reads after a crash anywhere. The expected lines are worked
+//! by hand from the rules of edits and of delta lines.
 ghost use Rattle.std.specs.Prelude.{◌≡◌, OnOk, false};
 ghost use mathlib.Core.List.{IsPrefix};
 ghost use Rattle.ps_grid.specs.Blanks.{IsBlankOf};
@@ -22,10 +22,10 @@ use std::sync::ledger::{Blank, Ledger};
 use std::test::Fail;
 use std::thread::Threads;
 
-/// What is done at replica 1.
+/// A change at replica 1.
 #[derive(Clone, Copy)]
 enum Step {
-    /// A cell is given what an entry stands for.
+    /// A cell gets what an entry stands for.
     Set(&'static [u8], &'static [u8]),
     /// A counter is raised.
     Add(&'static [u8], u64),
@@ -39,7 +39,7 @@ enum Step {
     Push(&'static [u8]),
 }
 
-/// What is done, step by step.
+/// The changes, step by step.
 const SCRIPT: [Step; 9] = [
     Step::Set(b"A1", b"5"),
     Step::Set(b"B1", b"=[.A1]*2"),
@@ -52,7 +52,7 @@ const SCRIPT: [Step; 9] = [
     Step::Push(b"[[\"A1\",[2,2,\"6\"],[],[]]]"),
 ];
 
-/// The file that keeps it.
+/// The file with these changes.
 const FILE: &str = "replica 1
 push [[\"A1\",[1,1,\"5\"],[],[]]]
 push [[\"B1\",[1,1,\"=[.A1]*2\"],[],[]]]
@@ -65,7 +65,7 @@ push [[\"D1\",null,[],[[3,1,1,1]]]]
 push [[\"A1\",[2,2,\"6\"],[],[]]]
 ";
 
-/// What A1, B1 and C1 show after so many of its changes; 0 for nothing.
+/// What A1, B1 and C1 show after each number of its changes; 0 stands for nothing.
 const SHOWN: [[i64; 3]; 10] = [
     [0, 0, 0],
     [5, 0, 0],
@@ -123,7 +123,7 @@ fn obey<L: Ledger, R: Threads + Sync>(
     }
 }
 
-/// Makes the change of a step, and has the sheet kept.
+/// Makes the change of a step, and syncs it.
 fn keep_line<L: Ledger, R: Threads + Sync>(
     rt: &R,
     alloc: Global,
@@ -147,14 +147,14 @@ fn keep_line<L: Ledger, R: Threads + Sync>(
     }
 }
 
-/// A device after the script, and how many lines of it were kept.
+/// The device after the script, and the number of lines that were kept.
 #[derive(Drop)]
 struct Ran {
     device: MemoryDevice,
     kept: usize,
 }
 
-/// Carries the script out, up to the first line that can't be kept: how many lines were.
+/// Runs the script up to the first line that can't be kept, and returns how many were.
 fn run_script<L: Ledger, R: Threads + Sync>(
     rt: &R,
     alloc: Global,
@@ -199,7 +199,7 @@ fn kept_with<L: Ledger, R: Threads + Sync>(
     Some(Ran { device, kept })
 }
 
-/// The script, kept in an empty file whose calls go well so often; none where the start is refused.
+/// Runs the script with an empty file; its first `calls` calls succeed. Returns none if the start is refused.
 fn kept_up_to<R: Threads + Sync>(rt: &R, alloc: Global, calls: u64) -> Option<Ran> {
     kept_with::<Brand, R>(rt, Blank::new(1), alloc, calls)
 }
@@ -224,10 +224,10 @@ fn number_in(sheet: &Sheet, name: &[u8]) -> i64 {
     }
 }
 
-/// What a start reads of a file, or why it is refused, and the file that comes back.
+/// What a start reads of a file, or why it is refused, with the file that it returns.
 type Started = Result<Start, (KeepFault, Option<MemoryFile>)>;
 
-/// The file that came back, without the place for its device.
+/// The returned file, without the place for its device.
 fn file_of(found: Option<LentFile<'_>>) -> Option<MemoryFile> {
     let LentFile { file, .. } = found?;
     Some(file)
@@ -273,7 +273,7 @@ fn started<R: Threads + Sync>(rt: &R, alloc: Global, bytes: &[u8]) -> Started {
     }
 }
 
-/// Why a start is refused, and the file that comes back; none where it isn't, or none comes back.
+/// Why a start is refused, and the file that it returns; none if it isn't refused, or returns none.
 fn refusal_of<R: Threads + Sync>(
     rt: &R,
     alloc: Global,
@@ -285,7 +285,7 @@ fn refusal_of<R: Threads + Sync>(
     }
 }
 
-/// How many whole lines there are, and how many bytes they have.
+/// The number of whole lines, and of their bytes.
 fn whole_of(bytes: &[u8]) -> (usize, usize) {
     let mut lines = 0usize;
     let mut end = 0usize;
@@ -298,7 +298,7 @@ fn whole_of(bytes: &[u8]) -> (usize, usize) {
     (lines, end)
 }
 
-/// Whether a start is what a beginning of the file tells, at least so many changes, and leaves its whole lines, or the
+/// Whether a start reads a beginning of the file with at least `least` changes, and leaves its whole lines, or the
 /// first one.
 fn is_start_of(start: &Start, bytes: &[u8], least: usize) -> bool {
     let (lines, end) = whole_of(bytes);
@@ -314,7 +314,7 @@ fn is_start_of(start: &Start, bytes: &[u8], least: usize) -> bool {
         && start.device.synced == left
 }
 
-/// A start reads what a beginning of the file tells.
+/// Whether a start reads a beginning of the file with at least `least` changes.
 fn reads<R: Threads + Sync>(rt: &R, alloc: Global, bytes: &[u8], least: usize) -> bool {
     match started(rt, alloc, bytes) {
         Ok(start) => is_start_of(&start, bytes, least),
@@ -322,7 +322,7 @@ fn reads<R: Threads + Sync>(rt: &R, alloc: Global, bytes: &[u8], least: usize) -
     }
 }
 
-/// Whether a start reads all that was kept, whatever a crash leaves of what was written.
+/// Whether a start reads all lines that were kept, whatever a crash leaves of the bytes written.
 fn survives<R: Threads + Sync>(rt: &R, alloc: Global, ran: &Ran) -> bool {
     let bytes = ran.device.bytes.as_slice();
     if !FILE.as_bytes().starts_with(bytes) {
@@ -336,7 +336,7 @@ fn survives<R: Threads + Sync>(rt: &R, alloc: Global, ran: &Ran) -> bool {
     true
 }
 
-/// Each form of an edit, and a delta of another replica: the file has their lines, and all of them are on the disk.
+/// Each form of an edit, and a delta of another replica: the file has their lines, and all of them are synced.
 #[test]
 fn each_change_is_a_line(rt: HostRuntime) -> Result<(), Fail> {
     match kept_up_to(&rt, rt.alloc(), 99) {
@@ -349,7 +349,7 @@ fn each_change_is_a_line(rt: HostRuntime) -> Result<(), Fail> {
     Ok(())
 }
 
-/// A file that is cut at whatever byte: a start reads its whole lines.
+/// A file cut at any byte: a start reads its whole lines.
 #[test]
 fn a_file_cut_at_each_byte(rt: HostRuntime) -> Result<(), Fail> {
     for count in 0..=FILE.len() {
@@ -358,8 +358,8 @@ fn a_file_cut_at_each_byte(rt: HostRuntime) -> Result<(), Fail> {
     Ok(())
 }
 
-/// Each call of the device fails in turn, and after it a crash comes that leaves any number of the bytes. The first
-/// three calls are the cut, the first line and its sync.
+/// Each call of the device fails in turn, and then a crash leaves any number of the bytes. The first three calls are
+/// the cut, the first line and its sync.
 #[test]
 fn a_crash_at_each_call_and_byte(rt: HostRuntime) -> Result<(), Fail> {
     for calls in 0..22u64 {
@@ -374,7 +374,7 @@ fn a_crash_at_each_call_and_byte(rt: HostRuntime) -> Result<(), Fail> {
     Ok(())
 }
 
-/// What no start goes on with is named, and the file comes back as it was.
+/// A start names the reason for each refusal, and returns the file as it was.
 #[test]
 fn what_is_refused(rt: HostRuntime) -> Result<(), Fail> {
     for (text, fault) in [
@@ -426,8 +426,8 @@ fn other_spellings(rt: HostRuntime) -> Result<(), Fail> {
     Ok(())
 }
 
-/// Whichever single request for memory is refused, the start is refused so, with the file as it was, or it isn't; and
-/// the next one reads the file.
+/// Whichever single allocation fails: the start is either refused as out of memory, with the file as it was, or it
+/// succeeds. The next start reads the file.
 #[test]
 fn refused_open_kept(rt: HostRuntime) -> Result<(), Fail> {
     for _ in 0..2 {
@@ -439,7 +439,7 @@ fn refused_open_kept(rt: HostRuntime) -> Result<(), Fail> {
             Err((KeepFault::Memory, Some(file))) => {
                 assert!(rt; file.bytes.as_slice() == FILE.as_bytes());
             }
-            // no memory for the file itself
+            // out of memory for the file itself
             Err((KeepFault::Memory, None)) => {}
             Err(_) => assert!(rt; false),
         }

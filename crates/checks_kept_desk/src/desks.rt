@@ -1,4 +1,4 @@
-//! Desks that are kept, and what sessions do at them.
+//! Kept desks, and the edits that sessions make at them.
 
 ghost use Rattle.std.specs.Prelude.{◌≡◌, [], false, IfOk};
 ghost use Rattle.ps_grid.specs.Blanks.{IsBlankOf};
@@ -20,15 +20,16 @@ use std::process::Abort;
 use std::sync::Wait;
 use std::sync::ledger::{Blank, Ledger};
 use std::thread::Threads;
+use std::time::Clock;
 
-/// The same bytes.
+/// Returns a copy of these bytes.
 fn copied(alloc: Global, bytes: &[u8]) -> Result<Vec<u8>, AllocError>
     ensures { IfOk result (λ copy. copy.items ≡ bytes.now) }
 {
     bytes.to_vec(alloc)
 }
 
-/// What a file has that keeps an empty sheet of replica 1.
+/// Returns the bytes of a file that keeps an empty sheet of replica 1.
 pub(crate) fn empty_file(rt: &impl Abort, alloc: Global) -> Vec<u8>
     ensures { TellHistory 1 (whole_lines result.items) [] }
 {
@@ -38,7 +39,7 @@ pub(crate) fn empty_file(rt: &impl Abort, alloc: Global) -> Vec<u8>
     }
 }
 
-/// The journal of such a file.
+/// Opens the journal of such a file.
 fn journal_of<F: Found + Drop>(rt: &impl Abort, alloc: Global, found: F) -> Journal<F::Device>
     requires told { TellHistory 1 (whole_lines (F.bytes found)) [] }
     ensures told { TellHistory 1 result.lines [] }
@@ -49,7 +50,7 @@ fn journal_of<F: Found + Drop>(rt: &impl Abort, alloc: Global, found: F) -> Jour
     open(alloc, found).ok().expect(rt, "a journal")
 }
 
-/// A sheet of replica 1, and the journal of such a file.
+/// Returns an empty sheet of replica 1, and the journal of such a file.
 pub(crate) fn begin<F: Found + Drop>(
     rt: &impl Abort,
     alloc: Global,
@@ -67,8 +68,8 @@ pub(crate) fn begin<F: Found + Drop>(
     (sheet, journal_of(rt, alloc, found))
 }
 
-/// Enters 7 with a meter of its own.
-fn entered<L: DeskName, W: Wait + Drop, T: Abort + Threads + Wait + Sync, M: Ledger>(
+/// Enters 7 into a cell, with a meter of its own, and returns the number of the edit.
+fn entered<L: DeskName, W: Wait + Drop, T: Abort + Threads + Wait + Clock + Sync, M: Ledger>(
     rt: &T,
     blank: Blank,
     alloc: Global,
@@ -82,8 +83,8 @@ fn entered<L: DeskName, W: Wait + Drop, T: Abort + Threads + Wait + Sync, M: Led
     number.expect(rt, "a receipt")
 }
 
-/// Enters 7 into a cell: the number that the session is told.
-pub(crate) fn enter<L: DeskName, W: Wait + Drop, T: Abort + Threads + Wait + Sync>(
+/// Enters 7 into a cell, and returns the number that the session gets for it.
+pub(crate) fn enter<L: DeskName, W: Wait + Drop, T: Abort + Threads + Wait + Clock + Sync>(
     rt: &T,
     alloc: Global,
     seat: &mut Seat<'_, L, W, T>,
@@ -96,7 +97,7 @@ pub(crate) fn enter<L: DeskName, W: Wait + Drop, T: Abort + Threads + Wait + Syn
     entered::<L, W, T, Brand>(rt, Blank::new(1), alloc, seat, edit)
 }
 
-/// The line of this number in a file, from 0 on.
+/// Returns the line with this number in a file, from 0.
 pub(crate) fn line_at(bytes: &[u8], number: u64) -> Option<&[u8]> {
     let mut left = bytes;
     for _ in 0..number {
@@ -105,7 +106,7 @@ pub(crate) fn line_at(bytes: &[u8], number: u64) -> Option<&[u8]> {
     Some(first_line(left)?.0)
 }
 
-/// How many whole lines there are.
+/// Returns the number of whole lines.
 pub(crate) fn count_lines(bytes: &[u8]) -> u64 {
     let mut left = bytes;
     let mut count = 0u64;

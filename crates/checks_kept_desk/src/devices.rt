@@ -28,13 +28,13 @@ impl Log {
     }
 }
 
-/// A file of memory, and who looks at it.
+/// A file in memory whose device writes to a log.
 #[derive(Drop)]
 pub(crate) struct WatchedFile<'a, T: Wait> {
     file: MemoryFile,
     rt: &'a T,
     log: &'a Mutex<Log>,
-    /// where the first sync meets somebody else, twice
+    /// the barrier at which the first sync meets another thread, twice
     meeting: Option<&'a Barrier>,
 }
 
@@ -85,7 +85,7 @@ impl<'a, T: Wait> Found for WatchedFile<'a, T> {
     }
 }
 
-/// A device of memory, and who looks at it.
+/// A device in memory that writes what it has to a log.
 #[derive(Drop)]
 pub(crate) struct Watched<'a, T: Wait> {
     inner: MemoryDevice,

@@ -16,16 +16,17 @@ use std::marker::Brand;
 use std::process::Abort;
 use std::sync::{Mutex, Wait};
 use std::thread::Threads;
+use std::time::Clock;
 
 const SEATS: usize = 4;
 
 const EDITS: u16 = 6;
 
-/// The columns of the seats.
+/// The columns of the session slots.
 const NAMES: [&str; SEATS] = ["A", "B", "C", "D"];
 
-/// A desk after a session for each pass, and what was acknowledged.
-fn race<'a, L: DeskName + Send + Sync, T: Abort + Threads + Wait + Sync>(
+/// Runs a session for each pass, closes the desk, and returns it with all acknowledged edits.
+fn race<'a, L: DeskName + Send + Sync, T: Abort + Threads + Wait + Clock + Sync>(
     rt: &'a T,
     alloc: Global,
     parts: Parts,
@@ -45,14 +46,14 @@ fn race<'a, L: DeskName + Send + Sync, T: Abort + Threads + Wait + Sync>(
     close(rt, alloc, keeper, desk, left)
 }
 
-/// The line of an edit of a seat.
+/// Returns the line of an edit by a slot's session.
 fn line_of(rt: &impl Abort, alloc: Global, seat: u64, row: u16) -> Vec<u8> {
     let column = NAMES.get(seat as usize).expect(rt, "a column");
     let line = format!(in alloc; "push [[\"{column}{row}\",[1,1,\"7\"],[],[]]]").ok();
     line.expect(rt, "a line").into_bytes()
 }
 
-/// Whether each edit that was acknowledged is in these lines, at its number.
+/// Returns whether each acknowledged edit is in these lines, at its number.
 fn stand(rt: &impl Abort, alloc: Global, lines: &[u8], edits: &[(u64, u64, u16)]) -> bool {
     let mut whole = true;
     for (number, seat, row) in edits {
@@ -65,7 +66,7 @@ fn stand(rt: &impl Abort, alloc: Global, lines: &[u8], edits: &[(u64, u64, u16)]
     whole
 }
 
-/// What the device has on the disk after the desk is closed, and whether all is as it was told.
+/// Checks what is durable after the desk is closed, and what the last sync reported.
 fn check<T: Abort + Wait>(
     rt: &T,
     alloc: Global,
@@ -86,8 +87,8 @@ fn check<T: Abort + Wait>(
     assert!(rt; device.is_broken || count_lines(kept) == 1 + all);
 }
 
-/// Whichever call of the device fails, and where none does: each edit that was acknowledged is on the disk, at its
-/// number, and once a sync failed each later one of the same session did.
+/// Whichever call of the device fails, if any, each acknowledged edit is durable, at its number. Once a sync failed,
+/// each later one of the same session fails.
 #[test]
 fn each_call_fails_in_turn(rt: HostRuntime) {
     let alloc = rt.alloc();

@@ -1,10 +1,11 @@
-//! Tests of desks that are kept, by public calls alone.
+//! Tests of kept desks, by public calls alone.
 //!
-//! `failing` has several sessions in threads of their own over a device that fails at each call in turn, `shared` one
-//! sync for all that wait, and an edit during a sync. `sessions` has what the sessions of both do, `desks` and
-//! `devices` what they do it at.
+//! - `failing`: several sessions in threads of their own, over a device that fails at each call in turn.
+//! - `shared`: one sync for all that wait, and an edit during a sync.
+//! - `sessions`: what the sessions of both do.
+//! - `desks` and `devices`: the desks, files and devices that they use.
 //!
-//! A crate with tests is proved a second time with them, so these stand apart from what they test.
+//! A crate with tests is proved a second time with them, so these stand apart from the crates that they test.
 #![tactic(auto)]
 
 #[cfg(test)]

@@ -1,7 +1,7 @@
-//! Sessions at a desk that is kept, each in a thread of its own, and what they leave.
+//! Sessions at a kept desk, each in a thread of its own, and their results.
 
 use crate::desks::enter;
-use ps_desk::{Desk, DeskName, Pass, Seat, desk_is_sync};
+use ps_desk::{Desk, DeskName, Pass, Presence, Seat, desk_is_sync};
 use ps_keep::Device;
 use ps_kept_desk::{DeskKeeper, Ended, KeptPlace, SeatKeeper, keeper_is_sync};
 use ps_session::Keeper;
@@ -10,21 +10,22 @@ use std::process::Abort;
 use std::sync::{Barrier, Wait};
 use std::thread;
 use std::thread::Threads;
+use std::time::Clock;
 
-/// What the sessions of a desk do.
+/// The job of the sessions of a desk.
 #[derive(Clone, Copy)]
 pub(crate) enum Job<'a> {
-    /// Each edits its column down so many rows, and has each edit kept before it is acknowledged.
+    /// Each session edits this many rows of its column, and makes each edit durable before the next.
     Down(u16),
-    /// Each edits and meets all the others; then each has all kept.
+    /// Each session edits and meets all the others. Then each makes all edits durable.
     Together(&'a Barrier),
-    /// Both meet once they have begun, since who begins may wait for a sync. The first edits, and has its edit kept, and
-    /// its sync meets the other one, who edits until they meet again.
+    /// Two sessions meet once they have begun, since beginning may wait for a sync. The first edits and syncs. Its sync
+    /// meets the other session, which edits until they meet again.
     Meanwhile(&'a Barrier),
 }
 
-/// A session that has ended: its pass, what it was told is kept, and of each edit that was acknowledged its number, its
-/// seat and its row.
+/// The result of a session: its pass, the token for what it reported as durable, and its acknowledged edits. Each edit
+/// has its number, its slot and its row.
 #[derive(Drop)]
 pub(crate) struct Left<L: DeskName> {
     pass: Pass<L>,
@@ -32,8 +33,13 @@ pub(crate) struct Left<L: DeskName> {
     acknowledged: Vec<(u64, u64, u16)>,
 }
 
-/// Edits a column down, and has each edit kept. Once a sync failed, each later one fails too.
-fn edit_down<L: DeskName, D: Device + Drop, W: Wait + Drop, T: Abort + Threads + Wait + Sync>(
+/// Edits a column downwards, and syncs after each edit. Once a sync failed, each later one fails too.
+fn edit_down<
+    L: DeskName,
+    D: Device + Drop,
+    W: Wait + Drop,
+    T: Abort + Threads + Wait + Clock + Sync,
+>(
     rt: &T,
     alloc: Global,
     seat: &mut Seat<'_, L, W, T>,
@@ -58,8 +64,8 @@ fn edit_down<L: DeskName, D: Device + Drop, W: Wait + Drop, T: Abort + Threads +
     acknowledged
 }
 
-/// Does what the seat has to do.
-fn session<L: DeskName, D: Device + Drop, W: Wait + Drop, T: Abort + Threads + Wait + Sync>(
+/// Does a session's job with its pass.
+fn session<L: DeskName, D: Device + Drop, W: Wait + Drop, T: Abort + Threads + Wait + Clock + Sync>(
     rt: &T,
     alloc: Global,
     keeper: &DeskKeeper<L, D>,
@@ -68,7 +74,7 @@ fn session<L: DeskName, D: Device + Drop, W: Wait + Drop, T: Abort + Threads + W
     job: Job<'_>,
 ) -> Left<L> {
     let column = pass.seat();
-    let mut seat = Seat::new(desk, rt, pass);
+    let mut seat = Seat::new(desk, rt, pass, Presence::none());
     let mut own = SeatKeeper::new(keeper, desk, rt);
     let mut acknowledged = Vec::new(alloc);
     match job {
@@ -104,7 +110,7 @@ pub(crate) fn sessions<
     L: DeskName + Send + Sync,
     D: Device + Drop + Send,
     W: Wait + Drop + Send,
-    T: Abort + Threads + Wait + Sync,
+    T: Abort + Threads + Wait + Clock + Sync,
 >(
     rt: &T,
     alloc: Global,
@@ -124,7 +130,7 @@ pub(crate) fn sessions<
     left.expect(rt, "room")
 }
 
-/// Closes a desk that its sessions have left, and gives back all that was acknowledged.
+/// Closes a desk after its sessions, and returns all acknowledged edits.
 pub(crate) fn close<L: DeskName, D: Device + Drop, W: Wait + Drop, T: Abort + Wait>(
     rt: &T,
     alloc: Global,

@@ -16,12 +16,14 @@ use std::marker::Brand;
 use std::process::Abort;
 use std::sync::{Barrier, Mutex, Wait};
 use std::thread::Threads;
+use std::time::Clock;
 
-/// How many sessions wait for one sync.
+/// The number of sessions that wait for one sync.
 const SEATS: usize = 8;
 
-/// How often the device was synced by the sessions of a desk, and by its close, and how many changes there are then.
-fn syncs<'a, L: DeskName + Send + Sync, T: Abort + Threads + Wait + Sync>(
+/// Runs the sessions of a desk and closes it. Returns the number of syncs before the close and after it, and the number
+/// of changes.
+fn syncs<'a, L: DeskName + Send + Sync, T: Abort + Threads + Wait + Clock + Sync>(
     rt: &'a T,
     alloc: Global,
     parts: Parts,
@@ -46,7 +48,7 @@ fn syncs<'a, L: DeskName + Send + Sync, T: Abort + Threads + Wait + Sync>(
     (by_sessions, log.lock(rt).syncs, ended.sheet.version())
 }
 
-/// All sessions have edited before the first has anything kept: its sync is the only one.
+/// All sessions edit before the first one syncs: its sync is the only one.
 #[test]
 fn one_sync_serves_all_that_wait(rt: HostRuntime) {
     let alloc = rt.alloc();
@@ -62,7 +64,7 @@ fn one_sync_serves_all_that_wait(rt: HostRuntime) {
     assert!(rt; by_sessions == 1 && all_syncs == 1 && changes == SEATS as u64);
 }
 
-/// A sync is under way until another session has edited: the edit waits for no sync, and is kept by the next one.
+/// A sync lasts until another session has edited. So the edit waits for no sync, and the next sync makes it durable.
 #[test]
 fn edits_go_on_during_a_sync(rt: HostRuntime) {
     let alloc = rt.alloc();

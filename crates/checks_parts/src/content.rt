@@ -4,7 +4,7 @@ use ps_grid::{Refusal, Twin};
 use std::alloc::Global;
 use std::cmp::Ordering;
 
-/// The canonical text of what an entry is read as.
+/// The canonical text of the content that an entry is read as.
 fn canonical_of(alloc: Global, entry: &[u8]) -> Result<Vec<u8>, Refusal> {
     let content = read_entry(alloc, entry)?;
     let mut text = Vec::new(alloc);
@@ -12,7 +12,7 @@ fn canonical_of(alloc: Global, entry: &[u8]) -> Result<Vec<u8>, Refusal> {
     Ok(text)
 }
 
-/// Whether a row is an entry and, after ` ~ `, the canonical text of what it is read as.
+/// Whether a row is an entry and, after ` ~ `, the canonical text of its content.
 fn becomes_canonical(alloc: Global, row: &str) -> bool {
     let Some((entry, canonical)) = row.split_once(" ~ ") else {
         return false;
@@ -49,8 +49,8 @@ fn number_read(alloc: Global, entry: &str) -> Option<i64> {
     }
 }
 
-/// Numbers are read as std reads them: with signs and zeros in front, around both ends of 64 bits, and with a byte
-/// among the digits that is none.
+/// Numbers are read as std reads them: with signs and leading zeros, around both ends of 64 bits, and with a byte that
+/// is no digit.
 #[test]
 fn numbers_are_read(rt: HostRuntime) {
     // one in each line; the first is empty
@@ -99,7 +99,7 @@ fn is_canonical(alloc: Global, text: &str) -> Result<bool, Refusal> {
     Ok(read_canonical(alloc, text.as_bytes())?.is_some())
 }
 
-/// Canonical texts, and texts that mean the same and aren't canonical.
+/// Canonical texts are read back; texts with the same meaning that aren't canonical are not.
 #[test]
 fn canonical_texts(rt: HostRuntime) {
     // one in each line; the first is empty

@@ -9,7 +9,7 @@ use std::io::{ErrorKind, Read, Write};
 use std::marker::Brand;
 use std::sync::ledger::{Blank, Ledger};
 
-/// A peer that is interrupted some times, then gives or takes a byte at a time, and at last fails.
+/// A peer that is interrupted some times, then reads or writes one byte at a time, and at last fails.
 #[derive(Drop)]
 struct Peer {
     interrupts: u8,
@@ -55,7 +55,7 @@ impl Write for Peer {
     }
 }
 
-/// What three reads of a peer give.
+/// The counts of three reads of a peer.
 fn takes<L: Ledger>(peer: Peer, blank: Blank) -> [Option<usize>; 3]
     requires { IsBlankOf blank L.name L.parts }
 {
@@ -83,7 +83,7 @@ fn interrupted_peer(bytes: u8) -> Peer {
     }
 }
 
-/// What three reads of a peer with so many bytes give.
+/// The counts of three reads of a peer with so many bytes.
 fn taken(bytes: u8) -> [Option<usize>; 3] {
     takes::<Brand>(interrupted_peer(bytes), Blank::new(1))
 }
@@ -100,7 +100,7 @@ fn interrupted(rt: HostRuntime) {
     assert!(rt; takes_four(4) && !takes_four(3));
 }
 
-/// What three reads of these bytes give, in pieces of three bytes, and the piece after the first.
+/// The counts of three reads of these bytes, in pieces of three bytes, and the piece after the first read.
 fn takes_in_pieces<L: Ledger>(bytes: &[u8], blank: Blank) -> ([Option<usize>; 3], [u8; 3])
     requires { IsBlankOf blank L.name L.parts }
 {
@@ -113,7 +113,7 @@ fn takes_in_pieces<L: Ledger>(bytes: &[u8], blank: Blank) -> ([Option<usize>; 3]
     ([first, second, third], after_first)
 }
 
-/// What three reads of five bytes give.
+/// The same for five bytes.
 fn taken_in_pieces() -> ([Option<usize>; 3], [u8; 3]) {
     takes_in_pieces::<Brand>(b"abcde", Blank::new(1))
 }
@@ -124,7 +124,7 @@ fn pieces(rt: HostRuntime) {
     assert!(rt; taken_in_pieces() == ([Some(3), Some(2), Some(0)], *b"abc"));
 }
 
-/// A writer that has what it was given only once it is flushed.
+/// A writer that passes on what it was given only once it is flushed.
 #[derive(Drop)]
 struct HoldsBack {
     held: Vec<u8>,
@@ -148,7 +148,7 @@ impl Write for HoldsBack {
     }
 }
 
-/// Puts the bytes on a console over a writer, and hands them on.
+/// Puts the bytes on a console over a writer, and flushes the console.
 fn hands_on<L: Ledger>(
     alloc: Global,
     writer: &mut HoldsBack,
@@ -162,7 +162,7 @@ fn hands_on<L: Ledger>(
     hand_on(&mut sink).map_err(|_| Refusal::Device)
 }
 
-/// Whether a writer has given on all that was handed to it.
+/// Whether the writer has passed on all the bytes.
 fn gives_on(alloc: Global, bytes: &[u8]) -> bool {
     let mut writer = HoldsBack {
         held: Vec::new(alloc),
@@ -178,7 +178,7 @@ fn flushed(rt: HostRuntime) {
     assert!(rt; gives_on(rt.alloc(), b"ok 1\n"));
 }
 
-/// A writer that keeps what it takes, at most so many bytes a call; one of its calls fails.
+/// A writer that stores what it takes, at most so many bytes a call; one of its calls fails.
 #[derive(Drop)]
 struct FailsOnce {
     kept: Vec<u8>,
@@ -213,7 +213,7 @@ impl Write for FailsOnce {
     }
 }
 
-/// A writer of which the call after so many fails.
+/// A writer that fails at the call after so many.
 fn failing(alloc: Global, most: usize, fails_at: usize) -> FailsOnce {
     FailsOnce {
         kept: Vec::new(alloc),
@@ -223,7 +223,7 @@ fn failing(alloc: Global, most: usize, fails_at: usize) -> FailsOnce {
     }
 }
 
-/// So many bytes, of which no two neighbours are the same.
+/// So many bytes; no two neighbours are the same.
 fn bytes_of(alloc: Global, count: usize) -> Result<Vec<u8>, Refusal> {
     let mut bytes = Vec::with_capacity(alloc, count)?;
     for k in 0..count {
@@ -232,8 +232,7 @@ fn bytes_of(alloc: Global, count: usize) -> Result<Vec<u8>, Refusal> {
     Ok(bytes)
 }
 
-/// Puts the bytes and flushes, and does so again: whether each of the four was Ok, and whether a put of no byte is
-/// then.
+/// Puts the bytes and flushes, twice, and then puts no byte. Returns which of the five calls were Ok.
 fn rounds<L: Ledger>(
     alloc: Global,
     writer: &mut FailsOnce,
@@ -256,14 +255,14 @@ fn rounds_of(alloc: Global, writer: &mut FailsOnce, bytes: &[u8]) -> Result<[boo
     rounds::<Brand>(alloc, writer, bytes, Blank::new(1))
 }
 
-/// Whether a writer has made so many calls, and has just so many of these bytes from their start on.
+/// Whether a writer has made so many calls, and holds exactly the first `kept` of these bytes.
 fn has_first(writer: &FailsOnce, calls: usize, kept: usize, bytes: &[u8]) -> bool {
     writer.calls == calls && writer.kept.len() == kept && bytes.starts_with(&writer.kept)
 }
 
-/// How many of the four and of a put of no byte are Ok, where a call of the writer fails: those, and none after them.
+/// Which of the five calls of `rounds` are Ok, where one call of the writer fails.
 ///
-/// None where the writer has not made all calls up to that one, or has not so many of the bytes, twice, as are kept.
+/// Returns `None` unless the writer has made all calls up to that one, and holds the first `kept` bytes of `twice`.
 fn oks_where_a_call_fails(
     alloc: Global,
     bytes: &[u8],
@@ -281,9 +280,10 @@ fn oks_where_a_call_fails(
     }
 }
 
-/// Whichever call of the writer fails: it has all that came before, nothing comes after, and the sink stays failed.
+/// Whichever call of the writer fails, the writer has all bytes that came before, and nothing comes after. The sink
+/// stays failed.
 ///
-/// 65,536 of 100,000 bytes are sent as the room fills up, in three writes; the flush takes two more and a flush.
+/// 65,536 of 100,000 bytes are sent in three writes as the room fills up. The flush makes two more writes and a flush.
 #[test]
 fn each_call_of_the_writer_fails(rt: HostRuntime) -> Result<(), Refusal> {
     let alloc = rt.alloc();
@@ -311,7 +311,7 @@ fn each_call_of_the_writer_fails(rt: HostRuntime) -> Result<(), Refusal> {
     Ok(())
 }
 
-/// Whether the first put alone is Ok with a writer that takes no byte, which is called once and keeps none.
+/// Whether only the first put is Ok with a writer that takes no byte; it is called once and holds nothing.
 fn fails_at_none(alloc: Global) -> Result<bool, Refusal> {
     let mut writer = failing(alloc, 0, 100);
     let oks = rounds_of(alloc, &mut writer, b"ok 1\n")?;
@@ -324,7 +324,7 @@ fn a_writer_takes_none(rt: HostRuntime) {
     assert!(rt; fails_at_none(rt.alloc()) == Ok(true));
 }
 
-/// How many bytes three puts take, of a piece, of its rest and of four more, before a flush.
+/// How many bytes three puts take before a flush: of a piece, of its rest, and of four bytes more.
 fn taken_of<L: Ledger>(
     alloc: Global,
     writer: &mut FailsOnce,
@@ -341,7 +341,7 @@ fn taken_of<L: Ledger>(
     Ok([first, second, third])
 }
 
-/// Whether of 100,000 bytes the room's are taken first, then their rest, and all came to the writer in three calls.
+/// Whether 100,000 bytes are taken up to the room first and then the rest, and all reach the writer in three calls.
 fn takes_up_to_the_room(alloc: Global) -> Result<bool, Refusal> {
     let piece = bytes_of(alloc, 100_000)?;
     let mut writer = failing(alloc, usize::MAX, 100);
@@ -356,7 +356,7 @@ fn takes_up_to_the_room(alloc: Global) -> Result<bool, Refusal> {
     )
 }
 
-/// A piece larger than the room is taken up to the room, and what waits is sent before more is taken.
+/// A piece larger than the room is taken up to the room, and the waiting bytes are sent before more is taken.
 #[test]
 fn a_piece_larger_than_the_room(rt: HostRuntime) {
     assert!(rt; takes_up_to_the_room(rt.alloc()) == Ok(true));
@@ -379,7 +379,7 @@ fn replies<L: Ledger>(
     sink.flush().map_err(|_| Refusal::Device)
 }
 
-/// Whether 25,000 replies come whole and in order, in five calls of the writer.
+/// Whether 25,000 replies arrive whole and in order, in five calls of the writer.
 fn replies_come_whole(alloc: Global) -> Result<bool, Refusal> {
     let mut writer = failing(alloc, usize::MAX, 100);
     replies::<Brand>(alloc, &mut writer, b"ok 1234\n", 25_000, Blank::new(1))?;
@@ -390,7 +390,7 @@ fn replies_come_whole(alloc: Global) -> Result<bool, Refusal> {
     Ok(is_whole && writer.kept.len() == 200_000 && writer.calls == 5)
 }
 
-/// More replies than the room holds, before one flush, come whole and in order, in a write for each 65,536 bytes.
+/// More replies than the room holds, before one flush, arrive whole and in order, in a write for each 65,536 bytes.
 #[test]
 fn more_replies_than_the_room(rt: HostRuntime) {
     assert!(rt; replies_come_whole(rt.alloc()) == Ok(true));

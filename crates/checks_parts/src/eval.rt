@@ -1,6 +1,8 @@
-//! Formulas as a person writes them, and what they show. The expected values are worked by hand, and those of MOD and
-//! QUOTIENT with numbers of many digits come from another program (Python's `%`, and its `//` of the magnitudes); one
-//! table is what another spreadsheet shows. Cells and expected values stand in texts, which are quick to prove.
+//! Formulas as a person writes them, and the values that they show.
+//!
+//! The expected values are worked by hand. Those of MOD and QUOTIENT with numbers of many digits come from another
+//! program (Python's `%`, and its `//` of the magnitudes). One table has the values that another spreadsheet shows.
+//! Cells and expected values stand in texts, which are quick to prove.
 
 ghost use Rattle.ps_grid.specs.Blanks.{IsBlankOf};
 
@@ -13,7 +15,7 @@ use std::marker::Brand;
 use std::process::Abort;
 use std::sync::ledger::{Blank, Ledger};
 
-/// What the first cells of the grid show. All others are empty.
+/// The values that the first cells of the grid show. All others are empty.
 #[derive(Drop)]
 struct Board {
     shown: Vec<Value>,
@@ -45,7 +47,7 @@ fn number_value(text: &str) -> Option<Value> {
     Some(Value::Num(i64::from_str_radix(text, 10).ok()?))
 }
 
-/// The value that is written: a fault by its name, a text after an apostrophe, the set of 1 and 4, or a number.
+/// The value that a text writes: a fault by its name, a text after an apostrophe, the set of 1 and 4, or a number.
 fn value_written(text: &str) -> Option<Value> {
     match text {
         "#DIV/0!" => Some(Value::Err(Fault::DivZero)),
@@ -65,7 +67,7 @@ fn cell_written(row: &str) -> Option<(usize, Value)> {
     Some((Cell::read(name.as_bytes())?.index(), value_written(text)?))
 }
 
-/// Three rows, with the values of the cells of the table, a line for each; none where a line is wrong.
+/// A board of three rows with the values that the table gives, a line for each cell; none where a line is wrong.
 fn filled(alloc: Global, cells: &str) -> Result<Option<Board>, Refusal> {
     let mut shown = vec![in alloc; Value::Empty; 312]?;
     for row in cells.lines() {
@@ -103,7 +105,7 @@ fn has_value(alloc: Global, board: &Board, row: &str) -> bool {
     }
 }
 
-/// Over the cells, each formula of the table has the value of its line.
+/// Checks that, over the cells, each formula of the table has the value of its line.
 fn check(rt: &impl Abort, alloc: Global, cells: &str, formulas: &str) {
     let board = filled(alloc, cells).unwrap_or(None);
     assert!(rt; board.is_some());
@@ -150,7 +152,7 @@ fn remainders_and_quotients_of_each_sign(rt: HostRuntime) {
     );
 }
 
-/// MOD and QUOTIENT of numbers with many digits, as another program works them out.
+/// MOD and QUOTIENT of numbers with many digits have the values of another program.
 #[test]
 fn divisions_of_many_digits(rt: HostRuntime) {
     check(
@@ -173,7 +175,7 @@ fn divisions_of_many_digits(rt: HostRuntime) {
     );
 }
 
-/// What another spreadsheet (LibreOffice 7.4) shows for the same formulas over A1 3, A2 `x`, A3 -10 and B1 7.
+/// The values that another spreadsheet (LibreOffice 7.4) shows over A1 3, A2 `x`, A3 -10 and B1 7.
 #[test]
 fn as_another_spreadsheet_shows(rt: HostRuntime) {
     check(
@@ -262,7 +264,7 @@ fn operators_group_from_the_left(rt: HostRuntime) {
     );
 }
 
-/// IF takes the chosen branch alone, and each of the other functions on single values.
+/// IF takes only the chosen branch, and each of the other functions takes single values.
 #[test]
 fn functions_of_single_values(rt: HostRuntime) {
     check(
@@ -289,7 +291,7 @@ fn functions_of_single_values(rt: HostRuntime) {
     );
 }
 
-/// Two meters of their own ledgers: the first adds what the second has counted.
+/// Two meters with ledgers of their own: the first adds the count of the second.
 fn counted_together<L: Ledger, M: Ledger>(
     first: Blank,
     second: Blank,
@@ -307,7 +309,7 @@ fn counted_together<L: Ledger, M: Ledger>(
     value
 }
 
-/// What a formula shows over empty cells, where its second evaluation is handed on.
+/// The value of a formula over empty cells, from the second of two evaluations that a worker's meter counts.
 fn value_handed_on(alloc: Global, text: &str) -> Result<Value, Refusal> {
     let formula = Formula::read(alloc, text.as_bytes())?;
     let empty = Board {
@@ -316,7 +318,7 @@ fn value_handed_on(alloc: Global, text: &str) -> Result<Value, Refusal> {
     Ok(counted_together::<Brand, Brand>(Blank::new(1), Blank::new(1), &formula, &empty))
 }
 
-/// A worker's count of two is handed on and added; that it is two is proved where it is handed on.
+/// A worker's meter counts two evaluations, and its count is added. That it is two is proved where the meter ends.
 #[test]
 fn a_count_is_handed_on(rt: HostRuntime) {
     assert!(rt; value_handed_on(rt.alloc(), "=1+1") == Ok(Value::Num(2)));

@@ -1,7 +1,7 @@
-//! Formulas as a person writes them, and texts that are none.
+//! Formulas as a person writes them, and texts that are no formulas.
 //!
-//! What a test asserts is worked out by small functions with few owned values each, and its tables are texts: those
-//! are quick to prove.
+//! Small functions with few owned values each work out what a test asserts, and its tables are texts: those are quick
+//! to prove.
 
 use ps_formula::{Argument, Expr, Formula, Sign};
 use ps_grid::{Cell, Rect, Refusal};
@@ -25,9 +25,10 @@ fn becomes(alloc: Global, text: &[u8], canonical: &[u8]) -> bool {
         && compared(alloc, text, canonical) == Ok((false, true))
 }
 
-/// A formula that was read gives its canonical text: no blanks, no `$`, no leading zeros, names in upper case, a
-/// range's corners at the top left and the bottom right; parentheses and signs are kept, and so is a range of one
-/// cell. Its canonical text is read as the same formula.
+/// A formula has its canonical text: no blanks, no `$`, no leading zeros, names in upper case, and the corners of a
+/// range at the top left and the bottom right.
+///
+/// Parentheses, signs and ranges of one cell stay. The canonical text is read as the same formula.
 #[test]
 fn texts_become_canonical(rt: HostRuntime) {
     // in each line a text and its canonical text
@@ -64,7 +65,7 @@ fn texts_become_canonical(rt: HostRuntime) {
     assert!(rt; becomes(rt.alloc(), b"=iF(MOD(1;0);1;\t2)\r\n", b"=IF(MOD(1;0);1;2)"));
 }
 
-/// Formulas are ordered by the bytes of their canonical texts, however they were written.
+/// Formulas are ordered by the bytes of their canonical texts, whatever their spelling.
 #[test]
 fn formulas_are_ordered_by_their_texts(rt: HostRuntime) {
     assert!(rt; compared(rt.alloc(), b"=12", b"= 02") == Ok((true, false)));
@@ -76,7 +77,7 @@ fn refusal(alloc: Global, text: &[u8]) -> Option<Refusal> {
     Formula::read(alloc, text).err()
 }
 
-/// What the grammar does not have is refused as no formula.
+/// A text outside the grammar is refused as no formula.
 #[test]
 fn texts_that_are_no_formulas(rt: HostRuntime) {
     // one in each line; the first is empty, and the third begins with a blank
@@ -113,7 +114,7 @@ fn refusal_of(alloc: Global, byte: u8, count: usize, end: &[u8]) -> Option<Refus
     }
 }
 
-/// 512 bytes are read, 513 are too long whatever they hold; a canonical text has at most 256 bytes. Nothing nests
+/// 512 bytes are read, and 513 are too long whatever they hold. A canonical text has at most 256 bytes. Nothing nests
 /// too deep for the reader.
 #[test]
 fn lengths_are_limited(rt: HostRuntime) {
@@ -131,7 +132,7 @@ fn lengths_are_limited(rt: HostRuntime) {
     assert!(rt; refusal_of(alloc, b'(', 128, &closed) == Some(Refusal::TooLong));
 }
 
-/// Whether the tree is (2-3) less the product of -4 and 5, as far as its operators, 4 and 5 say.
+/// Whether the tree is (2-3) less the product of -4 and 5, judged by its operators, 4 and 5.
 fn is_grouped(tree: &Expr) -> bool {
     let Expr::Infix(Operator::Minus, difference) = tree else {
         return false;
@@ -174,7 +175,7 @@ fn has_expected_rects(rects: &[Rect]) -> bool {
     }
 }
 
-/// Whether it is a call of IF with three arguments, of which the second is a reference.
+/// Whether the tree is a call of IF with three arguments, the second a reference.
 fn is_choice(tree: &Expr) -> bool {
     let Expr::Call(Function::If, arguments) = tree else {
         return false;
@@ -187,8 +188,8 @@ fn refers_to_all(alloc: Global) -> Result<bool, Refusal> {
     Ok(has_expected_rects(formula.rects()) && is_choice(formula.tree()))
 }
 
-/// A formula refers to the cells of all its references and ranges, in branches that are not taken too; a range that
-/// covers the grid is one rectangle.
+/// A formula refers to the cells of all its references and ranges, also in branches not taken. A range that covers the
+/// grid is one rectangle.
 #[test]
 fn references_are_listed_from_left_to_right(rt: HostRuntime) {
     assert!(rt; refers_to_all(rt.alloc()) == Ok(true));

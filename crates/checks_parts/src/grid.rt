@@ -1,4 +1,4 @@
-//! Names that a spreadsheet gives its cells, the order of a rectangle's cells, and the calls once each.
+//! Names that a spreadsheet gives its cells, the order of a rectangle's cells, and each call once.
 
 ghost use Rattle.std.specs.Prelude.{◌≡◌, IfOk};
 
@@ -15,8 +15,8 @@ fn parsed(text: &str) -> Option<u64> {
     text.parse::<u64>().ok()
 }
 
-/// Digits are read as std reads them: few and many, with zeros in front, around the greatest number, and with a byte
-/// among them that is none.
+/// Digits are read as std reads them: few and many, with leading zeros, around the greatest number, and with a byte
+/// that is no digit.
 #[test]
 fn digits_are_read(rt: HostRuntime) {
     // one in each line; the first is empty
@@ -41,7 +41,7 @@ fn index_of(column: u8, row: u16) -> usize {
     }
 }
 
-/// Where a text is read, the index of its cell.
+/// The index of the cell that a text names.
 fn index_read(text: &[u8]) -> Option<usize> {
     Some(Cell::read(text)?.index())
 }
@@ -98,7 +98,7 @@ fn place_of(index: usize) -> Option<(u8, u16, usize)> {
     Some((cell.column(), cell.row(), cell.index()))
 }
 
-/// A cell outside the grid is none; an index and its cell go both ways.
+/// A cell outside the grid is none; an index and its cell convert both ways.
 #[test]
 fn cells_lie_in_the_grid(rt: HostRuntime) {
     for (column, row) in [(104, 1), (0, 0), (0, 1025)] {
@@ -133,7 +133,7 @@ fn index_within(rect: Rect, across: usize, down: usize) -> usize {
     }
 }
 
-/// The indices of the first eight cells that a walk gives, and the grid's size after its end.
+/// The indices of the first eight cells of a walk, and the grid's size after its end.
 fn walked(rect: Rect) -> [usize; 8] {
     let mut indices = [CELLS; 8];
     for (place, cell) in indices.iter_mut().zip(rect.cells()) {

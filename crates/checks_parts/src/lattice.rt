@@ -1,6 +1,6 @@
 //! Worked examples of the three types.
 //!
-//! What a test asserts is worked out by small functions with few owned values each: those are quick to prove.
+//! Small functions with few owned values each work out what a test asserts: those are quick to prove.
 
 use ps_grid::{Refusal, Twin};
 use ps_lattice::{Assignment, Choice, Count, Join, LAST_TIME, Linear, Pair, Register, Tally};
@@ -46,7 +46,7 @@ fn written(time: u64, replica: u8, byte: u8) -> Result<Register<Letter>, Refusal
     .ok_or(Refusal::ClockFull)
 }
 
-// Joins what an edit made into the state.
+// Joins the delta of an edit into the state.
 fn take_in<J: Join + Drop>(
     edit: Result<J, Refusal>,
     state: &mut J,
@@ -145,8 +145,9 @@ fn five_less_two(alloc: Global) -> Result<bool, Refusal> {
     Ok(is_alone && five.below(&other) && other.value() == 3)
 }
 
-/// A counter to which 5 is added and from which 7 is subtracted shows -2; replica 2's delta holds its own counts alone,
-/// and joining a delta again changes nothing.
+/// A counter to which 5 is added and from which 7 is subtracted shows -2.
+///
+/// Replica 2's delta holds only its own counts, and joining a delta again changes nothing.
 #[test]
 fn a_counter_shows_sums(rt: HostRuntime) {
     assert!(rt; five_less_seven(rt.alloc()) == Ok(true));
@@ -213,7 +214,7 @@ fn held(register: &Register<Letter>) -> Option<(u64, u8, u8)> {
     Some((held.time, held.replica, held.content.byte))
 }
 
-// Whether the register's content and time are those that it shows with its replica.
+// Whether the register shows this content and time with its replica.
 fn is_shown(register: &Register<Letter>) -> bool {
     match held(register) {
         Some((time, _, byte)) => {
@@ -250,7 +251,7 @@ fn the_last_time_refuses() -> Result<bool, Refusal> {
     Ok(edit.err() == Some(Refusal::ClockFull))
 }
 
-/// The later assignment stays; at equal stamps the greater content does; after the last time none is made.
+/// The later assignment stays; at equal stamps the greater content stays; after the last time none is made.
 #[test]
 fn the_last_writer_wins(rt: HostRuntime) {
     assert!(rt; the_later_stays(rt.alloc()) == Ok(true));

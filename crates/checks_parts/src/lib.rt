@@ -1,7 +1,7 @@
-//! The tests of the lower crates, by their public items: a module for each crate, with its name.
+//! The tests of the lower crates, by their public items: one module for each crate, with its name.
 //!
-//! They show what no clause says. Apart from the crates that they test, they are proved once, and each of those crates
-//! is proved without them.
+//! They show what no clause says. They stand apart from the crates that they test, so each crate is proved without its
+//! tests, and the tests are proved once.
 #![tactic(auto)]
 
 #[cfg(test)]

@@ -1,4 +1,4 @@
-//! Spellings as a person writes them, and what each of them means.
+//! Spellings as a person writes them, and the meaning of each.
 
 use ps_grid::{Cell, Rect, Refusal};
 use ps_tokens::{Function, Operator, Token, put_token, tokens};
@@ -33,7 +33,7 @@ fn has_expected_tokens(alloc: Global, text: &[u8]) -> bool {
     }
 }
 
-/// Each kind of token is read for what it means, not for how it is spelled.
+/// Each kind of token is read by its meaning, whatever its spelling.
 #[test]
 fn tokens_hold_what_is_meant(rt: HostRuntime) {
     let text = b" Sum([.B$3:.$A1];007)<=[.$CZ$1024]\r\n";
@@ -81,7 +81,7 @@ fn count_of(alloc: Global, text: &[u8]) -> Result<usize, Refusal> {
     Ok(tokens(alloc, text)?.len())
 }
 
-/// At each place the longest token is read.
+/// At each position the longest token is read.
 #[test]
 fn longest_tokens_are_read(rt: HostRuntime) {
     for (text, expected) in [
@@ -96,7 +96,7 @@ fn longest_tokens_are_read(rt: HostRuntime) {
     }
 }
 
-/// What is no token is refused as a formula.
+/// A text that is no token is refused as a formula.
 #[test]
 fn bad_spellings_are_refused(rt: HostRuntime) {
     // one in each line

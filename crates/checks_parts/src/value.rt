@@ -1,4 +1,4 @@
-//! Texts that others wrote down.
+//! Labels and the texts of values, from texts that others wrote down.
 ghost use Rattle.ps_grid.specs.Blanks.{IsBlankOf};
 
 use ps_device::MemorySink;
@@ -23,7 +23,7 @@ fn labels_are_ordered() -> Option<bool> {
     Some(short < long && long < other && short == short)
 }
 
-/// The texts of labels that there are, and of others that there aren't.
+/// Texts that are labels, and texts that are none.
 #[test]
 fn labels(rt: HostRuntime) {
     let longest = [b'a'; 64];
@@ -103,7 +103,7 @@ fn shows_faults(alloc: Global) -> bool {
         && shows(alloc, Value::Err(Fault::Cycle), "#CYCLE!")
 }
 
-/// Each form of a shown value.
+/// Values of each form show their texts.
 #[test]
 fn shown(rt: HostRuntime) {
     assert!(rt; shows(rt.alloc(), Value::Empty, ""));

@@ -1,18 +1,17 @@
-//! What is written of a peer that is followed, in whatever pieces its replies come. They and what is due are written by
-//! hand; what else a peer may reply is a test of the program (`tests/test_follow.py`).
+//! The lines written of a peer that is followed, in whatever pieces its replies come. The replies and the expected
+//! lines are written by hand. What else a peer may reply is a test of the program (`tests/test_follow.py`).
 ghost use Rattle.ps_grid.specs.Blanks.{IsBlankOf};
 
 use ps_device::{MemorySink, Reading};
-use ps_peers::{Following, Peer, follow};
+use ps_peers::{Peer, follow};
 use std::alloc::{AllocError, Global};
 use std::io;
 use std::io::Read;
 use std::marker::Brand;
 use std::sync::ledger::{Blank, Ledger};
 use std::test::Fail;
-use std::time::{Clock, Duration};
 
-/// A reader that gives its bytes in two pieces.
+/// A reader that returns its bytes in two pieces.
 #[derive(Drop)]
 struct Halves<'a> {
     first: &'a [u8],
@@ -29,19 +28,6 @@ impl Read for Halves<'_> {
         buf[..count].copy_from_slice(&self.first[..count]);
         self.first = &self.first[count..];
         Ok(count)
-    }
-}
-
-/// A clock by which nobody waits.
-struct Hurry;
-
-impl Clock for Hurry {
-    fn monotonic(&self) -> io::Result<Duration> {
-        Ok(Duration::from_secs(0))
-    }
-
-    fn since_1970(&self) -> io::Result<Duration> {
-        Ok(Duration::from_secs(0))
     }
 }
 
@@ -84,11 +70,7 @@ fn follow_counted<I: Ledger, O: Ledger, W: Ledger>(
     let requests = MemorySink::<O>::new(alloc, asked);
     let mut from = Peer::new(alloc, source, requests)?;
     let mut out = MemorySink::<W>::new(alloc, output);
-    let following = Following {
-        until_now,
-        every: Duration::from_millis(1),
-    };
-    let is_well = follow(&Hurry, alloc, &mut from, &mut out, following).is_ok();
+    let is_well = follow(alloc, &mut from, &mut out, until_now).is_ok();
     let MemorySink { bytes, failed } = out;
     drop(failed);
     Ok(Followed {
@@ -97,10 +79,12 @@ fn follow_counted<I: Ledger, O: Ledger, W: Ledger>(
     })
 }
 
-/// Two groups, an end that comes twice, one more, and the end of the input.
-const REPLIES: &[u8] = b"delta 16 [1]\ndelta 20 [2]\r\nend 20\nend 20\ndelta 21 [3]\nend 21\n";
+/// Two groups, an end, a wait that ends without more, an end again, a wait for one more, and the end of the input.
+const REPLIES: &[u8] = b"delta 16 [1]\ndelta 20 [2]\r\nend 20\nversion 20\nend 20\nversion 21\n\
+    delta 21 [3]\nend 21\n";
 
-/// In whatever two pieces the replies come, each group is written once, in order; and until now those before the end.
+/// In whatever two pieces the replies come, each group is written once, in order. If only the changes so far are
+/// followed, those before the first end are written.
 #[test]
 fn each_cut_is_followed(rt: HostRuntime) -> Result<(), Fail> {
     let alloc = rt.alloc();

@@ -1,5 +1,5 @@
-//! Sessions that have all kept before their replies are handed on, with a keeper and a sink that fail. The expected
-//! replies are worked by hand.
+//! Sessions that have all kept before their replies are sent, with a keeper and a sink that fail. The expected replies
+//! are worked by hand.
 ghost use Rattle.std.specs.Prelude.{◌≤◌, ⊤, length};
 ghost use Rattle.ps_grid.specs.Blanks.{IsBlankOf};
 
@@ -17,7 +17,7 @@ use std::sync::ledger::{Blank, Ledger};
 use std::test::Fail;
 use std::thread::Threads;
 
-/// A keeper that counts how often it is synced, and the changes that were there then; one of its syncs fails.
+/// A keeper that counts its syncs, and the changes at the last one; one of its syncs fails.
 #[derive(Drop)]
 struct Counting {
     syncs: u64,
@@ -42,7 +42,7 @@ impl Keeper<Sheet> for Counting {
     }
 }
 
-/// A writer that keeps what it is given, and fails after so many writes.
+/// A writer that records what it gets, and fails after a number of writes.
 #[derive(Drop)]
 struct Recorder {
     bytes: Vec<u8>,
@@ -63,7 +63,7 @@ impl Write for Recorder {
     }
 }
 
-/// A reader that gives a line at a time.
+/// A reader that returns a line at a time.
 #[derive(Drop)]
 struct ByLines<'a>(&'a [u8]);
 
@@ -82,14 +82,14 @@ impl Read for ByLines<'_> {
     }
 }
 
-/// Which sync fails, and how many writes don't.
+/// The number of the sync that fails, and of the writes that don't.
 #[derive(Clone, Copy)]
 struct Plan {
     fails_at: u64,
     writes: u64,
 }
 
-/// What a session came to: what was handed on, how often its keeper was synced, how many changes that covers.
+/// The outcome of a session: its end, the bytes sent, the number of syncs, and the changes that they cover.
 #[derive(Drop)]
 struct Outcome {
     ended: Result<u64, RunFault>,
@@ -98,7 +98,7 @@ struct Outcome {
     kept: u64,
 }
 
-/// What counts the failures of the devices, and the evaluations.
+/// Blanks that count the failures of the devices, and the evaluations.
 #[derive(Drop)]
 struct Blanks {
     reads: Blank,
@@ -107,7 +107,7 @@ struct Blanks {
     evaluations: Blank,
 }
 
-/// A session of a new sheet of replica 1, where these blanks count.
+/// A session of a new sheet of replica 1, counted by these blanks.
 fn kept_counted<R: Threads + Sync, T: Read + Drop, J: Ledger, K: Ledger, N: Ledger, L: Ledger>(
     rt: &R,
     alloc: Global,
@@ -167,7 +167,7 @@ fn kept_counted<R: Threads + Sync, T: Read + Drop, J: Ledger, K: Ledger, N: Ledg
     })
 }
 
-/// The same over new ledgers.
+/// The same session over new ledgers.
 fn kept_run<R: Threads + Sync, T: Read + Drop>(
     rt: &R,
     alloc: Global,
@@ -186,7 +186,7 @@ fn kept_run<R: Threads + Sync, T: Read + Drop>(
 /// Four lines.
 const TEXT: &[u8] = b"set A1 5\nset B1 =[.A1]*2\nget B1\npull 0\n";
 
-/// What is replied to the first lines of these, from none to all.
+/// The replies to the first lines, from none to all of them.
 const REPLIES: [&[u8]; 5] = [
     b"",
     b"ok 1\n",
@@ -195,10 +195,10 @@ const REPLIES: [&[u8]; 5] = [
     b"ok 1\nok 2\nval 10\ndelta 1 [[\"A1\",[1,1,\"5\"],[],[]]]\n",
 ];
 
-/// How many changes there are after them.
+/// The number of changes after these lines.
 const CHANGES: [u64; 5] = [0, 1, 2, 2, 2];
 
-/// Whichever sync fails, the replies to the lines before it are out, and no more; and it isn't tried again. There is
+/// Whichever sync fails, the replies to the lines before it are sent, and no more, and no later sync is tried. There is
 /// one sync before the first read, one after each line, and one at the end.
 #[test]
 fn a_failed_sync_ends_it(rt: HostRuntime) -> Result<(), Fail> {
@@ -219,7 +219,7 @@ fn a_failed_sync_ends_it(rt: HostRuntime) -> Result<(), Fail> {
     Ok(())
 }
 
-/// Where none fails, all is answered, and kept.
+/// If none fails, all is answered, and kept.
 #[test]
 fn all_is_kept(rt: HostRuntime) -> Result<(), Fail> {
     let alloc = rt.alloc();

@@ -15,7 +15,7 @@ fn read(alloc: Global, line: &[u8]) -> Result<Option<KeptLine>, Refusal> {
     read_kept_line(alloc, &mut Decoder::new(alloc), line)
 }
 
-/// The replica that a line tells, or 0 where it pushes a delta.
+/// The replica of a line, or 0 if it pushes a delta.
 fn said(alloc: Global, line: &[u8]) -> Result<Option<u8>, Refusal> {
     Ok(match read(alloc, line)? {
         Some(KeptLine::Replica(replica)) => Some(replica),
@@ -24,7 +24,7 @@ fn said(alloc: Global, line: &[u8]) -> Result<Option<u8>, Refusal> {
     })
 }
 
-/// The line of each replica tells it.
+/// The line of each replica has its number.
 #[test]
 fn each_replica_is_told(rt: HostRuntime) -> Result<(), Fail> {
     let alloc = rt.alloc();
@@ -38,8 +38,8 @@ fn each_replica_is_told(rt: HostRuntime) -> Result<(), Fail> {
     Ok(())
 }
 
-/// Lines that push a delta, in whatever spelling; lines that are near to such ones, and say nothing; and lines that push
-/// no delta, which are refused, though it be one without `push `.
+/// Lines that push a delta, in any spelling; lines that resemble these or a replica's, and say nothing; lines that
+/// begin with `push ` and push no delta, which are refused.
 #[test]
 fn lines_say_what_they_say(rt: HostRuntime) {
     for (line, want) in [
@@ -71,7 +71,7 @@ fn lines_say_what_they_say(rt: HostRuntime) {
     }
 }
 
-/// Whichever single request for memory is refused, a line that pushes is refused so, or it isn't; and the same decoder
+/// Whichever single allocation fails: a line that pushes is either refused as out of memory, or read. The same decoder
 /// then reads it. The line of a replica takes no memory.
 #[test]
 fn refused_read_kept_line(rt: HostRuntime) {

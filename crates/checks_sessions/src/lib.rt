@@ -1,10 +1,11 @@
 //! Tests of sessions and of desks, by public calls alone.
 //!
-//! `session` asks how bytes are put together to lines, `runs` what a sheet's session replies, `keeping` what one hands on whose keeper or sink fails, `syncing` and `following` what peers may reply,
-//! `kept_line` what a line of a kept file says, all of `ps_session`. `desk` has a sheet shared by several sessions, of
-//! `ps_desk`.
+//! - `session` tests how bytes come together to lines, and `kept_line` what a line of a kept file says.
+//! - `runs` tests the replies of a sheet's session, and `keeping` a session whose keeper or sink fails.
+//! - `syncing` and `following` test what peers may reply.
+//! - `desk` tests a sheet shared by several sessions, of `ps_desk`.
 //!
-//! A crate with tests is proved a second time with them, so these stand apart from what they test.
+//! They are a crate of their own, as a crate with tests is proved twice. No other crate uses it.
 #![tactic(auto)]
 
 #[cfg(test)]

@@ -15,7 +15,7 @@ use std::sync::ledger::{Blank, Ledger};
 use std::test::Fail;
 use std::thread::Threads;
 
-/// A reader that gives a byte at a time.
+/// A reader that returns a byte at a time.
 #[derive(Drop)]
 struct Trickle<'a>(&'a [u8]);
 
@@ -30,7 +30,7 @@ impl Read for Trickle<'_> {
     }
 }
 
-/// What a new sheet of replica 1 answers to a reader's lines, where these blanks count.
+/// The replies of a new sheet of replica 1 to a reader's lines, counted by these blanks.
 fn answered_counted<R: Threads + Sync, T: Read + Drop, J: Ledger, K: Ledger, L: Ledger>(
     rt: &R,
     alloc: Global,
@@ -53,7 +53,7 @@ fn answered_counted<R: Threads + Sync, T: Read + Drop, J: Ledger, K: Ledger, L: 
     Ok(bytes)
 }
 
-/// The same over new ledgers.
+/// The same replies over new ledgers.
 fn answered<R: Threads + Sync, T: Read + Drop>(
     rt: &R,
     alloc: Global,
@@ -69,8 +69,8 @@ fn answered<R: Threads + Sync, T: Read + Drop>(
     )
 }
 
-/// Lines are carried out one after another and each is answered, in whatever pieces they come; an empty line isn't.
-/// What is handed out is one delta or as many as fit, joined; and a table's lines follow their number.
+/// Lines are carried out one after another, in whatever pieces they come. Each has a reply; only an empty line has
+/// none. A pull returns one delta, or as many as fit, joined. A table's lines follow their number.
 #[test]
 fn lines_are_answered(rt: HostRuntime) -> Result<(), Fail> {
     let alloc = rt.alloc();
@@ -90,6 +90,12 @@ fn lines_are_answered(rt: HostRuntime) -> Result<(), Fail> {
         (
             b"set A1 5\nset B1 x,y\nset C2 =[.A1]+1\nrows C2:A1\nrows A1",
             b"ok 1\nok 2\nok 3\nrows 2\n5,\"x,y\",\n,,6\nerr 1 cell\n",
+        ),
+        (
+            b"wait 7\nset A1 5\nwait 0\nwait 1\nwait 18446744073709551615\nwait 18446744073709551616\n\
+            wait\nwait \nwait x\nwait 1 2",
+            b"version 0\nok 1\nversion 1\nversion 1\nversion 1\nerr 17 version\n\
+            err 16 command\nerr 17 version\nerr 17 version\nerr 16 command\n",
         ),
         (
             b"set A1 5\nset B1 x,y\nset C2 =[.A1]+1\nentries C2:A1\nentry C2\nentry A2\nentries A1",

@@ -28,8 +28,8 @@ fn lines_of(alloc: Global, first: &[u8], second: &[u8]) -> Result<Vec<u8>, Alloc
     Ok(found)
 }
 
-/// Lines end with a line feed or at the end of the input, a carriage return in front of it is dropped, and where the
-/// input is cut doesn't matter.
+/// Lines end with a line feed or at the end of the input. A carriage return before the line feed is dropped, and it
+/// doesn't matter where the input is cut.
 #[test]
 fn cuts_do_not_matter(rt: HostRuntime) -> Result<(), Fail> {
     let alloc = rt.alloc();

@@ -1,4 +1,4 @@
-//! What `sync` hands on; what else a peer may reply is a test of the program (`tests/test_sync.py`).
+//! What `sync` pushes. What else a peer may reply is a test of the program (`tests/test_sync.py`).
 ghost use Rattle.ps_grid.specs.Blanks.{IsBlankOf};
 
 use ps_device::{MemorySink, Reading};
@@ -9,14 +9,14 @@ use std::alloc::Global;
 use std::marker::Brand;
 use std::sync::ledger::{Blank, Ledger};
 
-/// What counts the failures of a peer's two devices.
+/// Blanks that count the failures of a peer's two devices.
 #[derive(Drop)]
 struct Counts {
     replies: Blank,
     requests: Blank,
 }
 
-/// How many lines `sync` hands on between two peers with these replies.
+/// How many lines `sync` pushes between two peers with these replies.
 fn synced(alloc: Global, pulled: &[u8], pushed: &[u8]) -> Result<u64, SyncFault> {
     let first = Counts {
         replies: Blank::new(1),

@@ -1,4 +1,4 @@
-//! A table that is taken in, though a growth be refused. The expected texts are worked by hand from the rules; other
+//! The import of a table while an allocation may fail. The expected texts are worked by hand from the rules. Other
 //! tables are tests of the program (`tests/test_table.py`).
 
 ghost use Rattle.ps_grid.specs.Blanks.{IsBlankOf};
@@ -14,7 +14,7 @@ use std::marker::Brand;
 use std::sync::ledger::{Blank, Ledger};
 use std::thread::Threads;
 
-/// Takes a reader's table in, where these blanks count.
+/// Imports a reader's table, and counts on ledgers of these blanks.
 fn taken<R: Threads + Sync, T: Read + Drop, I: Ledger, M: Ledger>(
     rt: &R,
     alloc: Global,
@@ -31,12 +31,12 @@ fn taken<R: Threads + Sync, T: Read + Drop, I: Ledger, M: Ledger>(
     import(rt, alloc, &mut source, sheet, &mut meter)
 }
 
-/// The refusal of a fault, and how many records stand.
+/// The refusal of a fault, and the number of records that were applied.
 fn refused(fault: ImportFault) -> (Refusal, usize) {
     (fault.refusal, fault.applied)
 }
 
-/// Takes a reader's table in, over ledgers of its own.
+/// Imports a reader's table, with ledgers of its own.
 fn take_from<R: Threads + Sync, T: Read + Drop>(
     rt: &R,
     alloc: Global,
@@ -56,7 +56,7 @@ fn table_of(alloc: Global, sheet: &Sheet, last: &str) -> Result<Vec<u8>, Refusal
     exported_text(alloc, sheet, Rect::new(first, last))
 }
 
-/// Ten records, and what is shown of each.
+/// Ten records, and what the sheet shows of each.
 static TEN: [(&[u8], &[u8]); 10] = [
     (b"1,=[.A1]*3\n", b"1,3\n"),
     (b"2,=[.A2]*3\n", b"2,6\n"),
@@ -79,8 +79,8 @@ fn ten(alloc: Global) -> Result<Vec<u8>, Refusal> {
     Ok(text)
 }
 
-/// Whether just the first so many of the ten records stand, each by an edit of its own. That B6 shows A7 is seen only
-/// where both stand.
+/// Whether the sheet has exactly the first `count` of the ten records, each by an edit of its own. B6 refers to A7, and
+/// shows its number only if the sheet has both.
 fn stand(alloc: Global, sheet: &Sheet, count: usize) -> Result<bool, Refusal> {
     let mut text = Vec::new(alloc);
     for (place, (_, row)) in TEN.iter().enumerate() {
@@ -94,8 +94,8 @@ fn stand(alloc: Global, sheet: &Sheet, count: usize) -> Result<bool, Refusal> {
     Ok(table_of(alloc, sheet, "B10")?.as_slice() == text.as_slice())
 }
 
-/// Takes the ten records in, by a second call where the first one is refused memory. Whether just the records stood
-/// that it said were applied, and then all of them.
+/// Imports the ten records, and calls again if the first call is out of memory. Returns whether the sheet first had
+/// exactly the records that the error counts, and then all.
 fn import_again<R: Threads + Sync>(
     rt: &R,
     alloc: Global,
@@ -122,14 +122,15 @@ fn import_again<R: Threads + Sync>(
     )
 }
 
-/// The same at an empty sheet.
+/// Does so with an empty sheet.
 fn refuse_import<R: Threads + Sync>(rt: &R, alloc: Global) -> Result<bool, Refusal> {
     let text = ten(alloc)?;
     let mut sheet = Sheet::open(alloc, 1, 1)?;
     import_again(rt, alloc, &text, &mut sheet)
 }
 
-/// A refused import is `Memory`, and just the records stand that it says were applied; the next one takes in all.
+/// A refused import is `Memory`, and exactly the records that it counts as applied are in the sheet. The next import
+/// takes all.
 #[test]
 fn refused_import(rt: HostRuntime) {
     let mut found = refuse_import(&rt, rt.alloc());

@@ -1,4 +1,4 @@
-//! Changes of a sheet, each told as a patch, published, and read.
+//! Changes of a sheet: each is published as a patch and read.
 
 ghost use Rattle.std.specs.Prelude.{◌≡◌, []};
 
@@ -21,8 +21,8 @@ fn cell(rt: &impl Abort, name: &str) -> Cell {
     Cell::read(name.as_bytes()).expect(rt, "a cell")
 }
 
-/// An entry of a cell, and what a reader sees of the cell, with the version: once the patch is appended, and once it is
-/// published.
+/// An entry of a cell, and what a reader then sees of the cell, with the version: after the patch is appended, and
+/// after it is published.
 type Row = (&'static str, &'static str, [(u64, Value); 2]);
 
 /// Publishes one entry after another, and compares what a reader sees.
@@ -46,7 +46,7 @@ fn go_through<L: Named, T: Abort + Threads + Wait + Sync>(
     Ok(())
 }
 
-/// The same of a new sheet.
+/// Does so with a new sheet.
 fn go_anew<T: Abort + Threads + Wait + Sync>(
     rt: &T,
     alloc: Global,
@@ -55,7 +55,7 @@ fn go_anew<T: Abort + Threads + Wait + Sync>(
     go_through::<Brand, T>(rt, alloc, NewBook::new(), rows)
 }
 
-/// The same, a second time where memory ran out in the first one.
+/// Does so, and once more if the first run is out of memory.
 fn check<T: Abort + Threads + Wait + Sync>(rt: &T, alloc: Global, rows: &[Row]) {
     let mut ended = go_anew(rt, alloc, rows);
     if ended == Err(Refusal::Memory) {
@@ -64,7 +64,8 @@ fn check<T: Abort + Threads + Wait + Sync>(rt: &T, alloc: Global, rows: &[Row]) 
     assert!(rt; ended.is_ok());
 }
 
-/// After a refused `append` a reader sees what it saw, and the next one is taken: a patch of a number, and of a text.
+/// After a refused `append` a reader sees what it saw before, and the next `append` works: for a patch of a number, and
+/// of a text.
 #[test]
 fn refused_append(rt: HostRuntime) {
     let rows = [
@@ -117,7 +118,7 @@ fn read_both<L: Named>(
     (seen.leave(), found)
 }
 
-/// Whether a cell that each patch gives its number shows the version.
+/// Whether the cell that each patch sets to its number shows the version.
 fn shows_number(version: u64, value: Value) -> bool {
     match value {
         Value::Num(number) => u64::try_from(number) == Ok(version),

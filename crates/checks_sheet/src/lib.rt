@@ -1,5 +1,6 @@
-//! Tests of sheets, tables of CSV, published copies and worlds, by public items alone. A crate without tests of its own
-//! is proved once.
+//! Tests of sheets, CSV tables, published copies and worlds, by public items alone.
+//!
+//! They are a crate of their own, as a crate with tests is proved twice. No other crate uses it.
 #![tactic(auto)]
 
 #[cfg(test)]

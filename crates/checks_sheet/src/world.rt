@@ -207,9 +207,8 @@ static STAMPED: [Step; 6] = [
 
 static STAMPED_SEEN: [Row; 2] = [(1, &[1, 2], 2, Seen::Num(4)), (2, &[1, 2], 1, Seen::Num(4))];
 
-/// Two replicas assign at the same time, and deltas come twice, to an unknown replica, or aren't there; a counter at
-/// three replicas, of which each has seen another part; two untrusted peers' deltas with the same stamp, received in both
-/// orders.
+/// Two replicas assign at the same time; deltas come twice, come to an unknown replica, or don't exist. Three replicas
+/// count, and each has seen another part. Two untrusted peers' deltas with the same stamp are received in both orders.
 #[test]
 fn replicas_show_what_they_took(rt: HostRuntime) -> Result<(), Refusal> {
     play_steps(&rt, rt.alloc(), 2, &GREATER, &GREATER_SEEN)?;

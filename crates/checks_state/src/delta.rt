@@ -1,6 +1,6 @@
 //! Worked examples of deltas, joins and the grid.
 //!
-//! What a test asserts is worked out by small functions with few owned values each; those are quick to prove.
+//! Small functions with few owned values each work out what a test asserts; those are quick to prove.
 
 mod refused;
 
@@ -21,7 +21,7 @@ use std::process::Abort;
 enum Part {
     // A number, with a time and a replica.
     Assigned(u64, u8, i64),
-    // What a replica added.
+    // What a replica added to its counter.
     Added(u8, u64),
     // A replica's first pair of the option 7, removed or not.
     Chosen(u8, bool),
@@ -176,8 +176,8 @@ fn joined(rt: &impl Abort, alloc: Global, deltas: &[Delta]) -> Result<Delta, Ref
     Delta::joined(alloc, deltas)
 }
 
-// What a cell holds in a delta of it alone, which is made of a state that may be empty or else of one that isn't; the
-// delta is then given up, and its twin joined.
+// The number in a cell after the twin of a one-cell delta is joined, once the delta itself is dropped. The delta is
+// made from a state that may be empty, or from one that isn't.
 fn held_by_one(rt: &impl Abort, alloc: Global, is_filled: bool) -> Result<Option<i64>, Refusal> {
     let state = assigned(rt, alloc, 1, 1, 5);
     let delta = if is_filled && !state.is_empty() {
@@ -199,7 +199,7 @@ fn one_cell_makes_a_delta(rt: HostRuntime) {
     assert!(rt; Delta::of_one(cell(&rt, 3), CellState::empty(rt.alloc())).is_none());
 }
 
-// Whether a delta touches two cells of the grid, of which the first has a counter that isn't shown.
+// Whether a delta touches two cells of the grid, the first by a counter that isn't shown.
 fn touches_two(
     rt: &impl Abort,
     alloc: Global,
@@ -211,7 +211,7 @@ fn touches_two(
     Ok(!grid.covers(delta) && touched.cells() == [cell(rt, 3), cell(rt, 4)].as_slice())
 }
 
-/// Touched are the cells that a join would change: a counter that isn't shown counts, and what is covered doesn't.
+/// A join touches the cells that it would change: a counter that isn't shown counts, and what is covered doesn't.
 #[test]
 fn hidden_parts_are_touched(rt: HostRuntime) -> Result<(), Refusal> {
     let alloc = rt.alloc();
@@ -230,13 +230,13 @@ fn hidden_parts_are_touched(rt: HostRuntime) -> Result<(), Refusal> {
     Ok(())
 }
 
-// The parts of a choice's pair of a replica, of an option: whether it is removed.
+// Whether the state has a removed pair; its set has a single pair.
 fn is_removed(state: &CellState) -> bool {
     let (_, _, choice) = state.parts();
     choice.parts().len() == 1 && choice.options() == 0
 }
 
-// Whether of three cells of a delta the counter, the pair that is removed and the number are new, and nothing else.
+// Whether exactly this is new of a delta: the counter, the removed pair and the number of three cells.
 fn has_news(parts: &[(Cell, CellState)], cells: &[Cell]) -> bool {
     parts.len() == 3
         && cells == [parts[0].0, parts[1].0, parts[2].0].as_slice()
@@ -246,7 +246,7 @@ fn has_news(parts: &[(Cell, CellState)], cells: &[Cell]) -> bool {
         && number_of(&parts[2].1) == Some(9)
 }
 
-// Whether that is what is new of the delta, and nothing is once it is joined.
+// Whether that is what is new of the delta, and nothing is new once it is joined.
 fn tells_news(
     rt: &impl Abort,
     alloc: Global,
@@ -260,8 +260,8 @@ fn tells_news(
     Ok(is_told && grid.covers(delta) && grid.news(alloc, delta)?.is_none())
 }
 
-/// New of a delta is a count that is greater, a pair that is removed, and a number in a cell that had none; a number
-/// that is there, an older one and an added pair that is there aren't.
+/// New of a delta is a greater count, a removed pair, and a number in a cell that had none. Not new is a number that
+/// the cell has, an older number, and an added pair that the cell has.
 #[test]
 fn news_are_what_is_not_there(rt: HostRuntime) -> Result<(), Refusal> {
     let alloc = rt.alloc();
@@ -284,13 +284,13 @@ fn news_are_what_is_not_there(rt: HostRuntime) -> Result<(), Refusal> {
     Ok(())
 }
 
-// Joins a state into another one and says whether it is below it then, by the trait alone.
+// Joins a state into another one, and says whether it is below that one then, by the trait alone.
 fn is_joined<J: Join>(alloc: Global, state: &mut J, other: &J) -> Result<bool, Refusal> {
     state.join(alloc, other)?;
     Ok(other.below(state))
 }
 
-// Joins the grid of the other three of the six deltas into a grid that isn't above it.
+// Joins a grid of the other three of the six deltas, which the first grid isn't above.
 fn join_other_half(rt: &impl Abort, alloc: Global, grid: &mut Grid) -> Result<(), Refusal> {
     let other = grid_of(rt, alloc, &[SIX[1], SIX[3], SIX[5]])?;
     assert!(rt; !other.below(grid));
@@ -314,7 +314,7 @@ fn value_at(rt: &impl Abort, grid: &Grid, index: usize) -> i64 {
 
 const LAST: usize = CELLS - 1;
 
-// Exchanges the changes twice, and looks at the cells before and after each.
+// Exchanges the changes twice, and looks at the cells before and after each exchange.
 fn exchange_and_back(
     rt: &impl Abort,
     grid: &mut Grid,
@@ -346,7 +346,7 @@ fn exchange_twice(
     Ok(())
 }
 
-/// What a join would change is listed beside the grid; an exchange puts it in and takes out what was there, and another
+/// What a join would change is listed beside the grid. An exchange puts it in and takes the old states out, and another
 /// one goes back. What is covered isn't listed, and the grid's first and last cell are as the others.
 #[test]
 fn changes_are_exchanged_and_back(rt: HostRuntime) -> Result<(), Refusal> {

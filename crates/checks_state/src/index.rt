@@ -1,6 +1,6 @@
 //! Formulas put in and taken out, and the cells that then refer to a cell.
 //!
-//! What a test asserts is worked out by small functions with few owned values each; those are quick to prove.
+//! Small functions with few owned values each work out what a test asserts; those are quick to prove.
 
 ghost use Rattle.std.specs.Prelude.{IfOk, OnOk, Some};
 ghost use Rattle.std.specs.Option.{option_copied};
@@ -16,7 +16,7 @@ fn cell(name: &str) -> Result<Cell, Refusal> {
     Cell::read(name.as_bytes()).ok_or(Refusal::Cell)
 }
 
-/// Whether the cells that refer to a cell are just those of these names, in this order.
+/// Whether exactly the cells of these names refer to a cell, in this order.
 fn refer_to(index: &Index, to: &str, names: &str) -> bool {
     match Cell::read(to.as_bytes()) {
         Some(to) => are_readers(index, to, names),
@@ -36,7 +36,7 @@ fn are_readers(index: &Index, to: Cell, names: &str) -> bool {
     names.next().is_none()
 }
 
-/// Whether of each row the cells that refer to the first are just the others, in this order.
+/// Whether the cells that refer to the first of each row are exactly the others, in this order.
 fn all_refer(index: &Index, rows: &[(&str, &str)]) -> bool {
     for (to, names) in rows {
         if !refer_to(index, to, names) {
@@ -46,7 +46,7 @@ fn all_refer(index: &Index, rows: &[(&str, &str)]) -> bool {
     true
 }
 
-/// The index with a formula put in for each cell whose name stands before it.
+/// The index with a formula put in for each cell that a line names.
 fn index_of(alloc: Global, lines: &str) -> Result<Index, Refusal>
     ensures { IfOk result (λ i. (forms : Puts) × Stands i forms) }
 {
@@ -55,7 +55,7 @@ fn index_of(alloc: Global, lines: &str) -> Result<Index, Refusal>
     Ok(index)
 }
 
-/// Puts in a formula for each cell whose name stands before it, beside those that are there.
+/// Puts in a formula for each cell that a line names, beside those of the index.
 fn put(alloc: Global, index: &mut Index, lines: &str) -> Result<(), Refusal>
     requires { (forms : Puts) × Stands index.old forms }
     ensures { OnOk result ((forms : Puts) × Stands index.new forms) }
@@ -88,7 +88,7 @@ fn ranges_that_meet_are_one_span(rt: HostRuntime) {
     assert!(rt; found == Ok(true));
 }
 
-/// Whether two ranges that overlap are one span, and those cells are found that refer to each cell.
+/// Whether two ranges that overlap are one span, and each cell has the right readers.
 fn ranges_that_meet(alloc: Global) -> Result<bool, Refusal> {
     let index = index_of(alloc, "A1 =SUM([.B1:.B2];[.B2:.B3])\nB2 =[.C1]")?;
     let rows = [
@@ -106,15 +106,17 @@ fn ranges_that_meet(alloc: Global) -> Result<bool, Refusal> {
     )
 }
 
-/// Of a cell of a column without ranges it is known whether nobody refers to it, or one cell alone.
+/// A cell of a column without ranges is known to have no reader, or a single one, without a walk.
 #[test]
 fn readers_are_known_without_a_walk(rt: HostRuntime) {
     let found = known_readers(rt.alloc());
     assert!(rt; found == Ok(true));
 }
 
-/// Whether the one cell that refers to A1 is known; the two of A2 are walked as those of a row, and the one of F1, a row
-/// below that at which the range is kept, as those of two rows.
+/// Whether the one reader of A1 is known, and that A3 has none, while those of A2 and F1 are found by a walk.
+///
+/// The two readers of A2 are walked as those of a row. F1 is a row below the one at which its range is kept, so that
+/// its reader is walked as those of two rows.
 fn known_readers(alloc: Global) -> Result<bool, Refusal> {
     let lines = "B1 =[.A1]\nC1 =[.A2]\nD1 =[.A2]\nE1 =SUM([.F1:.F2])";
     let index = index_of(alloc, lines)?;
@@ -126,12 +128,12 @@ fn known_readers(alloc: Global) -> Result<bool, Refusal> {
     )
 }
 
-/// Whether it is known that no cell refers to this one.
+/// Whether the cell is known to have no reader.
 fn nobody_reads(index: &Index, to: Cell) -> bool {
     matches!(index.readers(to), Readers::Nobody)
 }
 
-/// Whether it is known that this cell alone refers to the other.
+/// Whether the cell is known to have this one reader.
 fn one_reads(index: &Index, to: Cell, reader: Cell) -> bool {
     match index.readers(to) {
         Readers::One(found) => found == reader,
@@ -139,7 +141,7 @@ fn one_reads(index: &Index, to: Cell, reader: Cell) -> bool {
     }
 }
 
-/// Whether the first cell that refers to this one is given by a walk of one row of spans, or of two.
+/// Whether a walk of one or two rows of spans gives this first reader.
 fn are_walked(index: &Index, to: Cell, reader: Cell) -> bool {
     match index.readers(to) {
         Readers::Row(mut walk) => walk.next() == Some(reader),
@@ -148,7 +150,7 @@ fn are_walked(index: &Index, to: Cell, reader: Cell) -> bool {
     }
 }
 
-/// A cell for which two formulas are put in comes once, and for as long as one of them is there.
+/// A cell for which two formulas are put in comes once, as long as one of them is in.
 #[test]
 fn a_cell_with_two_formulas_comes_once(rt: HostRuntime) {
     let found = two_formulas(rt.alloc());
@@ -222,7 +224,7 @@ fn refer_alike(index: &Index, twin: &Index, to: Cell) -> bool {
     others.next().is_none()
 }
 
-/// Whether the same cells refer to each cell, by the same spans of each column.
+/// Whether the same cells refer to each cell in both, by the same spans of each column.
 fn are_alike(index: &Index, twin: &Index) -> bool {
     for column in 0..COLUMNS as u8 {
         if index.spans(column) != twin.spans(column) {
@@ -237,8 +239,8 @@ fn are_alike(index: &Index, twin: &Index) -> bool {
     true
 }
 
-/// Puts a formula in the place of another or of none, by a second call where the first one is refused. Whether that
-/// refusal was `Memory` and left all as it is in the twin.
+/// Exchanges a formula for another, or for none, and calls again if the first call is refused. Returns whether that
+/// refusal was `Memory` and left all as in the twin.
 fn set_again(
     index: &mut Index,
     twin: &Index,

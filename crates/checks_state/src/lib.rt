@@ -1,7 +1,7 @@
-//! The tests of the replicated state and of what a sheet is made of, by their public items: `ps_delta`, `ps_shown`,
+//! Tests of the replicated state and of the parts of a sheet, by their public items: `ps_delta`, `ps_shown`,
 //! `ps_index`, `ps_region`, `ps_workers` and `ps_wire`.
 //!
-//! They stand apart since a crate with tests is proved twice. Nothing stands on this crate.
+//! They are a crate of their own, as a crate with tests is proved twice. No other crate uses it.
 #![tactic(auto)]
 
 #[cfg(test)]

@@ -101,7 +101,7 @@ fn mark_all(sheet: &Sheet, index: &Index, whole: &mut Region)
     whole.mark(index, sheet, &sheet.cells, &[]);
 }
 
-/// Marks the change of all formulas, and then that of the touched cells alone.
+/// Marks the change of all formulas, and then only that of the touched cells.
 fn mark(sheet: &Sheet, index: &Index, touched: &[Cell], whole: &mut Region, region: &mut Region)
     requires { IsSmallSheet index.now sheet.now.formulas.items sheet.now.cells.items }
 {
@@ -114,7 +114,7 @@ fn cell(name: &str) -> Result<Cell, Refusal> {
     Cell::read(name.as_bytes()).ok_or(Refusal::Cell)
 }
 
-/// Whether the cells are just those of these names, which are distinct, in any order.
+/// Whether the cells are exactly those of these distinct names, in any order.
 fn are(cells: &[Cell], names: &str) -> bool {
     names.split_ascii_whitespace().count() == cells.len()
         && names

@@ -7,7 +7,7 @@ use ps_value::{Fault, LABEL_BYTES, Label, Operand, SharedLabel, Value};
 use std::alloc::Global;
 use std::test::Fail;
 
-/// What is kept of a value.
+/// What a table keeps of a value.
 fn kept_of(alloc: Global, value: Value) -> Result<Kept, Refusal> {
     Ok(match value {
         Value::Empty => Kept::Empty,
@@ -24,13 +24,13 @@ fn put(alloc: Global, shown: &mut Shown, cell: Cell, value: Value) -> Result<Val
     Ok(old.value())
 }
 
-/// Whether a cell shows a value, which evaluation reads as this.
+/// Whether a cell shows a value, and evaluation reads it as this operand.
 fn shows(shown: &Shown, cell: Cell, value: Value, operand: Operand) -> bool {
     shown.at(cell) == value && shown.operand(cell) == operand
 }
 
-/// Whether a text of a cell makes way for the number 5, and then for nothing; the twin that was made before shows it,
-/// and the other cell shows nothing.
+/// Whether the number 5 replaces a text of a cell, and then nothing replaces the number. The twin that was made before
+/// still shows the text, and the other cell shows nothing.
 fn comes_and_goes(alloc: Global, cell: Cell, other: Cell, label: Label) -> Result<bool, Refusal> {
     let mut shown = Shown::new(alloc)?;
     let before = put(alloc, &mut shown, cell, Value::Text(label))?;
@@ -47,8 +47,8 @@ fn comes_and_goes(alloc: Global, cell: Cell, other: Cell, label: Label) -> Resul
     )
 }
 
-/// In the first and the last cell of the grid a text of 64 bytes makes way for a number, and that for nothing; what a
-/// twin shows stays.
+/// In the first and the last cell of the grid, a number replaces a text of 64 bytes, and then nothing replaces the
+/// number. A twin still shows what it showed.
 #[test]
 fn a_text_makes_way(rt: HostRuntime) -> Result<(), Fail> {
     let first = Cell::new(0, 1).ok_or("a cell")?;
@@ -59,7 +59,7 @@ fn a_text_makes_way(rt: HostRuntime) -> Result<(), Fail> {
     Ok(())
 }
 
-/// Whether what is kept of a value has it, is read so, and is the same as its twin and not as a text.
+/// Whether the kept value is this value, is read as this operand, and equals its twin but not the text.
 fn is_kept(alloc: Global, value: Value, operand: Operand, text: &Kept) -> Result<bool, Refusal> {
     let kept = kept_of(alloc, value)?;
     let twin = kept.twin(alloc)?;

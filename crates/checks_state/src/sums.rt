@@ -1,5 +1,5 @@
-//! Sums over tables filled by chance, beside a plain walk of the same cells row by row, which knows no runs, no summaries
-//! and nothing that is remembered.
+//! Sums over random tables, compared with a plain walk of the same cells row by row. The walk knows no runs, no
+//! summaries and nothing that is remembered.
 
 ghost use Rattle.ps_grid.specs.Blanks.{IsBlankOf};
 
@@ -14,7 +14,7 @@ use std::process::Abort;
 use std::sync::ledger::{Blank, Ledger};
 use std::test::Fail;
 
-/// What a plain walk knows of the items so far.
+/// What a plain walk has found in the items so far.
 #[derive(Drop)]
 struct Plain {
     count: u64,
@@ -24,7 +24,7 @@ struct Plain {
     fault: Option<Fault>,
 }
 
-/// What it knows before the first of them.
+/// What it has found before the first of them.
 fn nothing() -> Plain {
     Plain {
         count: 0,
@@ -48,7 +48,7 @@ fn take(plain: &mut Plain, operand: Operand) {
     }
 }
 
-/// A range: the text of its corners, its columns from 0 and its rows from 1, the last of each among them.
+/// A range: the text of its corners, its columns from 0 and its rows from 1. The last column and row belong to it.
 const RANGES: [(&str, u8, u16, u8, u16); 12] = [
     ("[.A1:.A1024]", 0, 1, 0, 1_024),
     ("[.B3:.B67]", 1, 3, 1, 67),
@@ -120,7 +120,7 @@ fn shows(alloc: Global, function: &str, range: &str, shown: &Shown) -> Result<Va
     Ok(evaluated(&formula, shown))
 }
 
-/// Whether each function of a range shows what a plain walk gives.
+/// Whether each function of a range shows the result of a plain walk.
 fn compare(
     rt: &impl Abort,
     alloc: Global,
@@ -136,7 +136,7 @@ fn compare(
     Ok(())
 }
 
-/// The same of each range and the walk of its cells.
+/// Compares each range with the walk of its cells.
 fn agree(rt: &impl Abort, alloc: Global, shown: &Shown) -> Result<(), Fail> {
     for (range, left, top, right, bottom) in RANGES {
         let plain = walked(shown, left, top, right, bottom);
@@ -160,15 +160,15 @@ fn remember_all(shown: &mut Shown) -> Result<(), Fail> {
     Ok(())
 }
 
-/// The next of a row of numbers by chance.
+/// Returns the next of a sequence of pseudo-random numbers.
 fn next(chance: u64) -> u64 {
     chance
         .wrapping_mul(6_364_136_223_846_793_005)
         .wrapping_add(1_442_695_040_888_963_407)
 }
 
-/// A value by chance: mostly a number, sometimes the greatest or the least that there is, a text, options or nothing;
-/// a fault only where there may be faults.
+/// Returns a pseudo-random value: mostly a number, sometimes the greatest or the least one, a text, options or nothing.
+/// It is a fault only if `faults` allows them.
 fn value_by(alloc: Global, chance: u64, faults: bool) -> Result<Kept, Refusal> {
     let number = (chance >> 40) as i64;
     let kept = match chance / 8_589_934_592 % 64 {
@@ -188,7 +188,7 @@ fn value_by(alloc: Global, chance: u64, faults: bool) -> Result<Kept, Refusal> {
     Ok(kept)
 }
 
-/// The cell that chance picks: every second time one of the first columns.
+/// Returns a pseudo-random cell, every second time in one of the first columns.
 fn cell_by(chance: u64) -> Option<Cell> {
     let row = chance / 65_536 % ROWS as u64;
     let columns = if chance % 2 == 0 { 6 } else { COLUMNS as u64 };
@@ -196,7 +196,7 @@ fn cell_by(chance: u64) -> Option<Cell> {
     Cell::new(column as u8, row as u16 + 1)
 }
 
-/// Puts so many values by chance; what is returned is where chance goes on.
+/// Puts `count` pseudo-random values, and returns where the random numbers go on.
 fn put_by(
     rt: &impl Abort,
     alloc: Global,

@@ -14,8 +14,8 @@ fn stays(alloc: Global, line: &[u8]) -> Result<bool, Refusal> {
     Ok(text.as_slice() == line && fits_line(&delta) && !outgrows_line(&delta))
 }
 
-/// The lines that the first worked examples accept or answer, and those of the last cell, of the last sequence, of
-/// several deltas joined, and of an escaped text stay as they are.
+/// These lines stay as they are when they are read and written: those of the first worked examples, of the last cell,
+/// of the last sequence, of several deltas joined, and of an escaped text.
 #[test]
 fn old_lines(rt: HostRuntime) -> Result<(), Refusal> {
     for line in [
@@ -100,8 +100,8 @@ const IN_TURN: [(&str, bool); 20] = [
     ),
 ];
 
-/// Whether the decoder reads the text as a line, if it is one, and then as the delta whose text serde_json writes for
-/// the value that it reads there.
+/// Whether the decoder reads the text exactly if it is a line, and then writes what serde_json writes for the value
+/// that it reads.
 fn is_read(
     alloc: Global,
     decoder: &mut Decoder,
@@ -168,8 +168,11 @@ const NEARLY_COMPACT: [(&str, bool); 44] = [
     (r#"[["A1",[1,2,5],[],[]]]"#, false),
 ];
 
-/// Texts that are no delta: nothing, cells out of order or twice, names, numbers, contents, counts and pairs out of
-/// their ranges, numbers with a sign, a fraction or an exponent, and what goes on after its end.
+/// Texts that are no delta:
+///
+/// - nothing, cells out of order or twice, and what goes on after a delta's end;
+/// - names, numbers, contents, counts and pairs out of their ranges;
+/// - numbers with a sign, a fraction or an exponent.
 const NO_DELTAS: [(&str, bool); 27] = [
     (r#"[]"#, false),
     (r#"[["A1",null,[],[]]]"#, false),
@@ -200,7 +203,7 @@ const NO_DELTAS: [(&str, bool); 27] = [
     ("", false),
 ];
 
-/// One decoder reads each text as JSON is read, or refuses it, as if there had been none before.
+/// One decoder reads each text, or refuses it, as if it had read none before.
 #[test]
 fn one_decoder_reads_texts_in_turn(rt: HostRuntime) -> Result<(), Refusal> {
     let mut decoder = Decoder::new(rt.alloc());
@@ -219,7 +222,7 @@ fn one_decoder_reads_texts_in_turn(rt: HostRuntime) -> Result<(), Refusal> {
 const FULL_LINE: &[u8] =
     br#"[["A1",[1,1,"@choice"],[[1,5,0]],[[7,1,1,1],[7,2,1,0]]],["B1",[2,2,"=-[.A1]"],[],[]]]"#;
 
-/// The delta of the line, by a second call where the first one is refused memory.
+/// The delta of the line; calls again if the first call is out of memory.
 fn decode_again(alloc: Global, bytes: &[u8]) -> Result<Delta, Refusal> {
     match decode(alloc, bytes) {
         Err(Refusal::Memory) => decode(alloc, bytes),
@@ -227,8 +230,8 @@ fn decode_again(alloc: Global, bytes: &[u8]) -> Result<Delta, Refusal> {
     }
 }
 
-/// Appends the text of the delta, by a second call where the first one is refused. Whether that refusal was `Memory`
-/// and left the line as before.
+/// Appends the text of the delta, and calls again if the first call is refused. Returns whether that refusal was
+/// `Memory` and left the line as before.
 fn encode_again(
     alloc: Global,
     delta: &Delta,
@@ -245,7 +248,7 @@ fn encode_again(
     }
 }
 
-/// Whether the full line is read and comes twice, and a refused call left what was there.
+/// Whether the full line is read and comes twice, and a refused call changed nothing.
 fn refuse_both(alloc: Global) -> Result<bool, Refusal> {
     let delta = decode_again(alloc, FULL_LINE)?;
     let mut line = Vec::new(alloc);
@@ -255,8 +258,8 @@ fn refuse_both(alloc: Global) -> Result<bool, Refusal> {
     Ok(is_kept_empty && is_kept_full && is_twice && line.len() == 2 * FULL_LINE.len())
 }
 
-/// A refused `decode` is `Memory`, and so is a refused `encode`, which leaves the line as it was, be it empty or not; the
-/// next call returns the delta of the line, or appends its text.
+/// A refused `decode` or `encode` is `Memory`, and a refused `encode` leaves the line as it was, empty or not. The next
+/// call returns the delta of the line, or appends its text.
 #[test]
 fn refused_decode_and_encode(rt: HostRuntime) {
     let mut found = refuse_both(rt.alloc());

@@ -19,8 +19,8 @@ use std::sync::ledger::{Blank, Ledger};
 use std::test::Fail;
 use std::thread::Threads;
 
-/// The formulas of the first cells of the grid; each cell shows 7. It is the gate of their evaluation, too, and counts
-/// its passes, the evaluations, and those that don't come right after the pass for them.
+/// The formulas of the first cells of the grid; each cell shows 7. It is also the gate of their evaluation. It counts
+/// the passes, the evaluations, and the evaluations that don't come right after their pass.
 #[derive(Drop)]
 struct Board {
     formulas: Vec<Formula>,
@@ -38,7 +38,7 @@ impl Board {
         }
     }
 
-    /// Whether the gate was passed so often, and, where one worker alone passed it, right before each evaluation.
+    /// Whether the gate was passed `count` times, and, by one worker, right before each evaluation.
     fn is_passed(&self, count: usize, workers: usize) -> bool {
         self.passes.load(Ordering::SeqCst) == count
             && self.evaluated.load(Ordering::SeqCst) == count
@@ -83,7 +83,7 @@ fn none() -> AtomicUsize {
     AtomicUsize::new(0)
 }
 
-/// The first cells, of which the one with index i has the formula that adds i + 1 to A1.
+/// The first cells; the one with index i has the formula that adds i + 1 to A1.
 fn sums(alloc: Global, count: usize) -> Result<(Board, Vec<Cell>), Fail> {
     let mut formulas = Vec::new(alloc);
     let mut cells = Vec::new(alloc);
@@ -157,7 +157,7 @@ fn alone_counted<L: Ledger>(blank: Blank, board: &Board, cell: Cell) -> Option<K
     }
 }
 
-/// What a cell gives by itself, where it has a formula.
+/// What a cell gives by itself, if it has a formula.
 fn alone(board: &Board, cell: Cell) -> Option<Kept> {
     alone_counted::<Brand>(Blank::new(1), board, cell)
 }
@@ -172,7 +172,7 @@ fn counts_on(out: &[Kept]) -> bool {
     true
 }
 
-/// Whether a level of so many sums gives 8, 9, 10 and so on, and passes the gate once for each.
+/// Whether a level of `count` sums gives 8, 9, 10 and so on, and passes the gate once for each.
 fn is_level<R: Threads + Sync>(
     rt: &R,
     alloc: Global,
@@ -190,8 +190,8 @@ fn is_level<R: Threads + Sync>(
     Ok(out.len() == count && counts_on(&out) && board.is_passed(count, workers))
 }
 
-/// Each number of cells as one level gives each its value, for every number of workers. The gate is passed as often as
-/// there are cells, and by one worker right before each evaluation.
+/// Each cell of a level gets its value, for each size of the level and every number of workers. The gate is passed as
+/// often as there are cells, and by one worker right before each evaluation.
 #[test]
 fn each_place_has_its_value(rt: HostRuntime) -> Result<(), Fail> {
     for workers in 1..=16 {
@@ -215,7 +215,7 @@ fn a_cell_alone_has_its_value(rt: HostRuntime) -> Result<(), Fail> {
     Ok(())
 }
 
-/// A level is worth one worker for each 4,096 cells, one at least, and as many as there are at most.
+/// A level is worth one worker for each 4,096 cells, at least one, and at most the given number.
 #[test]
 fn small_levels_are_worth_one_worker(rt: HostRuntime) {
     for (cells, workers, worth) in [

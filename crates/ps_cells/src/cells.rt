@@ -53,10 +53,10 @@ impl Model for Cells {
 }
 
 impl Cells {
-    /// Cells that hold and show nothing, with so many workers, 1 to `WORKERS`, among whom the formulas of a wide level
-    /// are divided.
+    /// Returns cells that hold and show nothing. `workers`, 1 to `WORKERS`, is how many share the formulas of a wide
+    /// level.
     ///
-    /// Refused only when out of memory.
+    /// Fails only when out of memory.
     ///
     /// Cost: linear in the cells of the grid.
     pub fn new(alloc: Global, workers: usize) -> Result<Cells, Refusal>
@@ -74,14 +74,14 @@ impl Cells {
         })
     }
 
-    /// Joins a delta to what the cells hold, and settles again what they show, so that it can be cancelled. Each worker
-    /// passes the gate before each of its evaluations. What was recalculated.
+    /// Joins a delta to what the cells hold, recalculates what they show, and returns what was recalculated. The change
+    /// can be cancelled. Each worker passes the gate before each of its evaluations.
     ///
-    /// Refused only when out of memory, and then the cells hold and show what they did.
+    /// Fails only when out of memory, and then the cells hold and show what they did.
     ///
     /// Cost: that of the join, and of the region: its cells, their references, and the evaluations, which the workers
-    /// of a wide level share; and one look at each cell that shows `#CYCLE!`, where a cell of the region has a formula
-    /// or showed it.
+    /// of a wide level share. If a cell of the region has a formula or showed `#CYCLE!`, also one look at each cell
+    /// that shows `#CYCLE!`.
     pub fn stage<R: Threads + Sync, G: Gate, L: Ledger>(
         &mut self,
         rt: &R,
@@ -112,7 +112,7 @@ impl Cells {
         Ok(work)
     }
 
-    /// Leaves the staged change as it was made. It takes no memory.
+    /// Commits the staged change. It takes no memory.
     ///
     /// Cost: the touched cells with their references, and the cells that were put.
     #[inline(always)]
@@ -126,7 +126,7 @@ impl Cells {
         self.is_staged = false;
     }
 
-    /// Takes the staged change back: the cells hold and show what they did. It takes no memory.
+    /// Cancels the staged change: the cells hold and show what they did. It takes no memory.
     ///
     /// Cost: the touched cells with their references, the cells that were put, and those that show `#CYCLE!`.
     pub fn cancel(&mut self)
@@ -141,7 +141,7 @@ impl Cells {
         self.is_staged = false;
     }
 
-    /// Lists the cells that show another value than before the staged change.
+    /// Lists the cells that show another value than before the staged change, for [`Cells::changed`].
     ///
     /// Cost: that of sorting them, and the cells that were put.
     pub fn list_changed(&mut self)
@@ -153,10 +153,9 @@ impl Cells {
         self.tables.shown.list_changed();
     }
 
-    /// The cell that alone shows another value than before the staged change, where the change put no other. None also
-    /// where no cell shows another value or several were put; then [`Cells::list_changed`] tells.
+    /// Returns the cell that shows another value than before the staged change, if the change put no other cell.
     ///
-    /// Cost: constant.
+    /// None means that no cell shows another value or that several were put: [`Cells::list_changed`] lists them then.
     #[inline]
     pub fn one_changed(&self) -> Option<Cell>
         ensures changed { IfSome result (λ c. IsChanged (shown_before self.now) (shown_now self.now) (c ∷ [])) }
@@ -164,10 +163,11 @@ impl Cells {
         self.tables.shown.one_changed()
     }
 
-    /// Lists what the cells show that were listed last, for a change that is handed out with its values (`Prepared`).
-    /// Who publishes a change reads the values from [`Cells::shown`].
+    /// Lists what the last listed cells show, for a change that is returned with its values (`Prepared`).
     ///
-    /// Cost: linear in these.
+    /// A publisher of changes reads the values from [`Cells::shown`] instead.
+    ///
+    /// Cost: linear in these cells.
     pub fn list_values(&mut self)
         ensures values { self.new.changes ≡ map (λ c. (c, shown_now self.old c)) self.old.changed }
         ensures kept { (self.new.grid ≡ self.old.grid) × (self.new.shown ≡ self.old.shown)
@@ -177,45 +177,35 @@ impl Cells {
         self.tables.shown.list_values();
     }
 
-    /// The cells that were listed last, ascending.
-    ///
-    /// Cost: constant.
+    /// Returns the cells that were listed last, ascending.
     pub fn changed(&self) -> &[Cell]
         ensures changed { result.now ≡ self.now.changed }
     {
         self.tables.shown.changed()
     }
 
-    /// The cells whose values were listed last by [`Cells::list_values`], with these.
-    ///
-    /// Cost: constant.
+    /// Returns the cells whose values [`Cells::list_values`] listed last, with these values.
     pub fn changes(&self) -> &[(Cell, Value)]
         ensures changes { result.now ≡ self.now.changes }
     {
         self.tables.shown.changes()
     }
 
-    /// What each cell holds.
-    ///
-    /// Cost: constant.
+    /// Returns what each cell holds.
     pub fn grid(&self) -> &Grid
         ensures grid { result.now ≡ self.now.grid }
     {
         &self.tables.grid
     }
 
-    /// What each cell shows.
-    ///
-    /// Cost: constant.
+    /// Returns what each cell shows.
     pub fn shown(&self) -> &Shown
         ensures shown { result.now ≡ self.now.shown }
     {
         self.tables.shown.shown()
     }
 
-    /// Whether a change is staged.
-    ///
-    /// Cost: constant.
+    /// Returns whether a change is staged.
     pub fn is_staged(&self) -> bool
         ensures staged { result ≡ is_some self.now.staged }
     {

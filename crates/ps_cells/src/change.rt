@@ -1,4 +1,4 @@
-//! The beginning of a change: everything that it needs memory for.
+//! The beginning of a change: everything that needs memory.
 
 ghost use Rattle.std.specs.Prelude.{◌≡◌, [], true, false, OnOk, OnErr, IfOk, IfErr};
 ghost use Rattle.std.specs.List.{list_all};
@@ -19,21 +19,21 @@ use ps_index::{Index, Readers};
 use ps_shown::Kept;
 use std::alloc::Global;
 
-/// Lists of the touched cells of a change. They are kept from one change to the next, so that a change asks for memory
-/// only where it touches more cells than all before.
+/// Lists of the touched cells of a change. They are reused, so that a change allocates only if it touches more cells
+/// than all before.
 #[derive(Drop)]
 pub(crate) struct Lists {
-    /// the touched cells, where they aren't alone
+    /// the touched cells, unless they are alone
     pub(crate) touched: Vec<Cell>,
-    /// the touched cells, each with what it shows at first, but for a sole one that is alone; between two changes
-    /// nothing is kept of them, but where the last one was refused
+    /// the touched cells, each with what it shows at first, except a sole one that is alone; between two changes it
+    /// stores no values, unless the last one failed
     pub(crate) first: Vec<(Cell, Kept)>,
     /// the touched cells, ascending, each with its state: the new one until the cells have got these, and from then on
-    /// the one that it had; between two changes none, but where the last one was refused
+    /// the one that it had; between two changes empty, unless the last one failed
     pub(crate) states: Vec<(Cell, CellState)>,
 }
 
-/// How the cells of a change that has begun are settled again, with what a sole one that is alone shows at first.
+/// How the cells of a change that has begun are recalculated, with what a sole one that is alone shows at first.
 #[derive(Drop)]
 pub(crate) enum Beginning {
     /// The touched cell is one, and alone.
@@ -55,11 +55,11 @@ impl Lists {
     }
 }
 
-/// Begins the change that a delta makes: the touched cells are listed with their new states, and what they show at
-/// first is worked out. It tells whether they are alone while no cell is cyclic; where they aren't, the new formulas
-/// are put into the index beside the old ones.
+/// Begins the change that a delta makes. Lists the touched cells with their new states, and works out what they show at
+/// first. Returns whether they are alone while no cell is cyclic. If they aren't, the new formulas are put into the
+/// index beside the old ones.
 ///
-/// Refused only when out of memory, and then the index stands for what it stood for.
+/// Fails only when out of memory, and then the index stands for what it stood for.
 pub(crate) fn begin(
     alloc: Global,
     grid: &mut Grid,
@@ -139,7 +139,7 @@ fn is_unread(index: &Index, cell: Cell) -> bool
     }
 }
 
-/// Lists the cells alone.
+/// Copies the cells into the list `alone`, without their states.
 fn list_cells(cells: &[(Cell, CellState)], alone: &mut Vec<Cell>) -> Result<(), Refusal>
     ensures cells { OnOk result (alone.new.items ≡ cells_of cells.now) }
     ensures memory { IfErr result (λ e. e ≡ Refusal.Memory) }
@@ -168,7 +168,7 @@ fn list_first(
     Ok(())
 }
 
-/// Puts the formulas of the cells into the index. Where one is refused, those before it are taken out again.
+/// Puts the formulas of the cells into the index. If one fails, those before it are taken out again.
 fn put_formulas(index: &mut Index, cells: &[(Cell, CellState)]) -> Result<(), Refusal>
     requires stands { (forms : Puts) × Stands index.old forms }
     ensures put { OnOk result ((forms : Puts) → Stands index.old forms
@@ -185,7 +185,7 @@ fn put_formulas(index: &mut Index, cells: &[(Cell, CellState)]) -> Result<(), Re
     Ok(())
 }
 
-/// Takes the formulas of the cells out of the index, and leaves no cell in the list.
+/// Takes the formulas of the cells out of the index, and empties the list.
 #[inline(always)]
 pub(crate) fn drop_formulas(index: &mut Index, cells: &mut Vec<(Cell, CellState)>)
     requires stands { (forms : Puts) × Stands index.old (with_puts cells.old.items forms) }

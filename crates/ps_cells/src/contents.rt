@@ -16,9 +16,7 @@ use ps_shown::Kept;
 use ps_value::Fault;
 use std::alloc::Global;
 
-/// The content of a cell's register, where something was assigned to it.
-///
-/// Cost: constant.
+/// Returns the content of a cell's register; none if nothing was assigned to it.
 pub fn content(state: &CellState) -> Option<&Content>
     ensures { option_copied result ≡ option_map (λ a. a.content) state.now.register }
 {
@@ -39,9 +37,9 @@ pub(crate) fn holds_formula(state: &CellState) -> bool
     formula_of(state).is_some()
 }
 
-/// What is kept of a cell at first: a formula waits, and any other content shows its value.
+/// What is stored for a cell at first: a formula waits, and any other content shows its value.
 ///
-/// Refused only when out of memory.
+/// Fails only when out of memory.
 #[inline(always)]
 pub(crate) fn first_of(alloc: Global, state: &CellState) -> Result<Kept, Refusal>
     ensures first { IfOk result (λ k. value_kept k ≡ first_value state.now) }
@@ -53,7 +51,7 @@ pub(crate) fn first_of(alloc: Global, state: &CellState) -> Result<Kept, Refusal
     }
 }
 
-/// What is kept at first of a cell with this content.
+/// What is stored at first for a cell with this content.
 #[inline(always)]
 fn first_by(alloc: Global, content: &Content, state: &CellState) -> Result<Kept, Refusal>
     ensures first { IfOk result (λ k. value_kept k ≡ first_by content.now state.now) }
@@ -69,7 +67,7 @@ fn first_by(alloc: Global, content: &Content, state: &CellState) -> Result<Kept,
     }
 }
 
-/// The options that are in, as a number.
+/// The options that are in, as a number: bit k stands for option k.
 fn options_of(choice: &Choice) -> u64
     ensures { result ≡ options_of choice.now }
 {

@@ -1,5 +1,5 @@
-//! One level of a recalculation: its due cells are evaluated together, by workers, and then shown one after the other.
-//! The cell of a level of one is evaluated and shown at once.
+//! One level of a recalculation. Workers evaluate its due cells together, and then each cell shows its value, one after
+//! the other. A level of one cell is evaluated and shown at once.
 
 ghost use Rattle.std.specs.Prelude.{◌≡◌, ◌+◌, ◌<◌, ◌≤◌, ◌∷◌, ◌++◌, [], List, ℕ, Bool, false, true};
 ghost use Rattle.std.specs.Prelude.{filter, length, vec_capacity, IfOk, IfErr};
@@ -66,7 +66,7 @@ pub(crate) struct Step<'a> {
 pub(crate) struct Level {
     /// the cells
     due: Vec<Cell>,
-    /// as many places as the largest level had due cells; between two levels they keep nothing
+    /// as many places as the largest level had due cells; between two levels they store nothing
     values: Vec<Kept>,
 }
 
@@ -115,7 +115,7 @@ impl Formulas for GridFormulas<'_> {
 impl Level {
     /// A level without cells, with room for each cell of the grid.
     ///
-    /// Refused only when out of memory.
+    /// Fails only when out of memory.
     pub(crate) fn new(alloc: Global) -> Result<Level, Refusal>
         ensures room { IfOk result (HasRoom CELLS) }
         ensures memory { IfErr result (λ e. e ≡ Refusal.Memory) }
@@ -126,10 +126,10 @@ impl Level {
         })
     }
 
-    /// Settles the cells of a level, by workers. How many were evaluated.
+    /// Recalculates the due cells of a level, by workers. Returns how many were evaluated.
     ///
-    /// No flag is set for the last level, since no cell that is still to be evaluated refers to one of it. Chains and
-    /// circles have levels of one cell, which is settled by itself, without lists, places and threads.
+    /// The last level sets no flags, since no cell that is still to be evaluated refers to one of it. Chains and
+    /// circles have levels of one cell, which is recalculated by itself, without lists, places and threads.
     pub(crate) fn settle<R: Threads + Sync, G: Gate, L: Ledger>(
         &mut self,
         workers: &Workers<'_, R, G>,
@@ -165,7 +165,7 @@ impl Level {
     }
 }
 
-/// Settles the only cell of a level, as worker 0. How many were evaluated.
+/// Recalculates the only cell of a level, as worker 0. Returns how many were evaluated.
 #[inline(always)]
 fn settle_one<R: Threads + Sync, G: Gate, L: Ledger>(
     workers: &Workers<'_, R, G>,
@@ -273,7 +273,7 @@ fn list_due(cells: &[Cell], flags: &[bool], due: &mut Vec<Cell>)
     }
 }
 
-/// Makes places until there are so many.
+/// Adds places until there are `count`.
 fn make_places(count: usize, values: &mut Vec<Kept>)
     requires room { count ≤ vec_capacity values.old }
     ensures places { count ≤ length values.new.items }
@@ -325,7 +325,7 @@ fn evaluate<R: Threads + Sync, G: Gate, L: Ledger>(
     ensures values { kept_values values.new ≡ values_at (state_at grid.now) (shown_at shown.now.kept) cells.now }
     ensures metered { meter.new ≡ meter.old + length cells.now }
 {
-    // for the fact that the workers may look at the grid together
+    // for the fact that the workers may read the grid together
     grids_are_shared();
     let worth = workers_worth(cells.len(), workers.count);
     eval_level(
@@ -375,7 +375,7 @@ fn put_all(cells: &[Cell], values: &mut [Kept], shown: &mut Screen)
     }
 }
 
-/// Lets each cell show the value of its place, and flags the cells that refer to those which showed another one.
+/// Lets each cell show the value of its place, and flags the cells that refer to those whose value changed.
 fn show_all(
     index: &Index,
     cells: &[Cell],

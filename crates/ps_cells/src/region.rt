@@ -1,4 +1,4 @@
-//! The region of a change. Where one cell gets one number after another, it stays as it is and isn't looked for again.
+//! The region of a change. While one cell gets one number after another, its region stays and isn't searched again.
 
 ghost use Rattle.std.specs.Prelude.{◌≡◌, ◌<◌, ◌∷◌, [], ℕ, true, false, IfSome, Some};
 ghost use Rattle.ps_formula.specs.References.{mentions};
@@ -77,8 +77,8 @@ fn sole(cells: &[Cell]) -> Option<Cell>
     }
 }
 
-/// Whether the region of a change of the source is that of this change too: the source alone is touched, and it neither
-/// had a formula nor has one.
+/// Whether the last region, of a change of the source, is that of this change too: only the source is touched, and it
+/// had no formula and has none.
 fn stays(grid: &Grid, region: &Region, source: Option<Cell>, touched: &[Cell]) -> bool
     ensures { result ≡ true → (c : ℕ) × (source ≡ Some c) × (touched.now ≡ c ∷ [])
         × (has_left region.now c ≡ false) × (formula_at (state_at grid.now) c ≡ false) }
@@ -92,7 +92,7 @@ fn stays(grid: &Grid, region: &Region, source: Option<Cell>, touched: &[Cell]) -
     !holds_formula(grid.at(cell))
 }
 
-/// Finds the region of a change, or leaves that of the change before, where that is the same.
+/// Finds the region of a change, or leaves that of the change before if it is the same.
 pub(crate) fn find_region(
     grid: &Grid,
     index: &Index,

@@ -1,4 +1,4 @@
-//! What the cells show, and what those that a change put showed before it.
+//! What the cells show, and what the cells that a change put showed before it.
 
 ghost use Rattle.std.specs.Prelude.{◌≡◌, ◌<◌, ◌≤◌, [], ◌∷◌, ℕ, true, false, length, slice_set};
 ghost use Rattle.std.specs.Prelude.{vec_capacity, IfOk, IfErr, IfSome, map, nat_eq};
@@ -24,21 +24,21 @@ use ps_value::{Fault, Operand, Value};
 use std::alloc::Global;
 use std::marker::Model;
 
-/// What each cell shows. Of the cells that were put since it was kept or taken back, what they showed before is kept
-/// aside, so that it can be taken back.
+/// What each cell shows. For the cells that were put since it was last kept or taken back, it also stores what they
+/// showed before.
 #[derive(Drop)]
 pub(crate) struct Screen {
     /// what each cell shows
     shown: Shown,
-    /// whether a formula that came had a long range, so that what formulas sum is to be remembered
+    /// whether a formula with a long range ever came, so that the sums of formulas are to be remembered
     expects_long: bool,
     /// the cells that were put, each once, with what they showed before; there is room for all
     olds: Vec<(Cell, Kept)>,
     /// whether a cell is among these
     is_put: Vec<bool>,
-    /// the cells that were listed last as showing another value, with room for all
+    /// the cells that were listed last as showing another value; there is room for all
     cells: Vec<Cell>,
-    /// the values that were listed last, with room for all cells
+    /// the values that were listed last; there is room for all cells
     changes: Vec<(Cell, Value)>,
 }
 
@@ -67,7 +67,7 @@ impl Model for Screen {
 impl Screen {
     /// Where each cell shows nothing.
     ///
-    /// Refused only when out of memory.
+    /// Fails only when out of memory.
     pub(crate) fn new(alloc: Global) -> Result<Screen, Refusal>
         ensures empty { IfOk result (λ s. shown_at s.kept ≡ λ _. Nothing) }
         ensures still { IfOk result (λ s. s.olds ≡ []) }
@@ -88,7 +88,7 @@ impl Screen {
         })
     }
 
-    /// All that is shown.
+    /// What each cell shows.
     pub(crate) fn shown(&self) -> &Shown
         ensures shown { result.now ≡ self.now.kept }
     {
@@ -102,7 +102,7 @@ impl Screen {
         self.shown.at(cell)
     }
 
-    /// What is kept of a cell.
+    /// What is stored for a cell.
     #[inline]
     pub(crate) fn kept(&self, cell: Cell) -> &Kept
         ensures { value_kept result.now ≡ shown_at self.now.kept cell }
@@ -126,7 +126,7 @@ impl Screen {
         self.shown.summary(rect)
     }
 
-    /// Expects that formulas sum such a range.
+    /// Notes that formulas sum this range.
     pub(crate) fn expect(&mut self, rect: Rect)
         ensures { self.new ≡ self.old }
     {
@@ -141,7 +141,7 @@ impl Screen {
         self.expects_long
     }
 
-    /// Remembers what SUM, MIN, MAX and COUNT need to know of a range, if it is a long one.
+    /// Remembers the sums of a range, if it is a long one.
     pub(crate) fn remember(&mut self, rect: Rect)
         ensures { self.new ≡ self.old }
     {
@@ -157,7 +157,7 @@ impl Screen {
         is_cycle(self.shown.kept(cell))
     }
 
-    /// Puts the cells that showed `#CYCLE!` before into a list of those that show it now.
+    /// Adds the cells that showed `#CYCLE!` before and don't now to the list of those that show it now.
     pub(crate) fn add_cyclic(&self, cells: &mut Vec<Cell>)
         requires now { ShowCycle (shown_at self.now.kept) (shown_at self.now.kept) cells.old.items }
         requires room { CELLS ≤ vec_capacity cells.old }
@@ -202,8 +202,8 @@ impl Screen {
         self.cells.sort_unstable();
     }
 
-    /// The cell that alone shows another value than before, where it is the only one that was put. None also where no
-    /// cell shows another value or several were put; then the list tells.
+    /// The cell that shows another value than before, if it is the only one that was put. None means that no cell shows
+    /// another value or that several were put.
     #[inline]
     pub(crate) fn one_changed(&self) -> Option<Cell>
         ensures changed { IfSome result (λ c. IsChanged (before_of self.now) (shown_at self.now.kept) (c ∷ [])) }
@@ -238,14 +238,14 @@ impl Screen {
     }
 }
 
-/// Whether `#CYCLE!` is kept of a cell.
+/// Whether a cell stores `#CYCLE!`.
 fn is_cycle(kept: &Kept) -> bool
     ensures { result ≡ is_waiting (value_kept kept.now) }
 {
     matches!(kept, Kept::Err(Fault::Cycle))
 }
 
-/// Puts the cells of old values into a list where they showed `#CYCLE!` before and don't now.
+/// Adds the cells of old values to a list if they showed `#CYCLE!` before and don't now.
 fn add_all_cyclic(olds: &[(Cell, Kept)], shown: &Shown, cells: &mut Vec<Cell>)
     requires once { IsDistinct nat_eq (cells_in olds.now) }
     requires inside { (c : ℕ) → In (cells_in olds.now) c → c < CELLS }
@@ -259,7 +259,7 @@ fn add_all_cyclic(olds: &[(Cell, Kept)], shown: &Shown, cells: &mut Vec<Cell>)
     }
 }
 
-/// Puts the cell of an old value into a list where it showed `#CYCLE!` before and doesn't now.
+/// Adds the cell of an old value to a list if it showed `#CYCLE!` before and doesn't now.
 fn add_one_cyclic(old: &(Cell, Kept), shown: &Shown, cells: &mut Vec<Cell>)
     requires room { was_cyclic old.now (shown_at shown.now) ≡ true
         → length cells.old.items < vec_capacity cells.old }
@@ -293,7 +293,7 @@ fn list_differing(olds: &[(Cell, Kept)], shown: &Shown, cells: &mut Vec<Cell>)
     }
 }
 
-/// Lists the cell of an old value where it shows another one now.
+/// Lists the cell of an old value if it shows another one now.
 #[inline]
 fn list_one(old: &(Cell, Kept), shown: &Shown, cells: &mut Vec<Cell>)
     requires room { length cells.old.items < vec_capacity cells.old }
@@ -305,7 +305,7 @@ fn list_one(old: &(Cell, Kept), shown: &Shown, cells: &mut Vec<Cell>)
     }
 }
 
-/// The cell of the only old value, where it shows another one now.
+/// The cell of the only old value, if it shows another one now.
 #[inline]
 fn one_differing(olds: &[(Cell, Kept)], shown: &Shown) -> Option<Cell>
     ensures changed { IfSome result
@@ -317,7 +317,7 @@ fn one_differing(olds: &[(Cell, Kept)], shown: &Shown) -> Option<Cell>
     None
 }
 
-/// The cell of an old value, where it shows another one now.
+/// The cell of an old value, if it shows another one now.
 #[inline]
 fn other(old: &(Cell, Kept), shown: &Shown) -> Option<Cell>
     ensures other { IfSome result
@@ -341,7 +341,7 @@ fn list_values(cells: &[Cell], shown: &Shown, changes: &mut Vec<(Cell, Value)>)
     }
 }
 
-/// Notes what a cell showed, where nothing is noted of it.
+/// Notes what a cell showed, unless that is noted already.
 #[inline(always)]
 fn note(olds: &mut Vec<(Cell, Kept)>, is_put: &mut [bool], cell: Cell, old: Kept)
     requires noted { IsNoted olds.old.items is_put.old }

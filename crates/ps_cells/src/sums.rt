@@ -1,5 +1,5 @@
-//! What formulas sum of long ranges is remembered before a level of them is evaluated, since the workers of the level
-//! read what is shown and change nothing.
+//! The sums of long ranges, remembered before a level of formulas is evaluated: the workers of the level only read what
+//! is shown.
 //!
 //! A contract sees none of it. A sheet that never had a formula with a long range pays a test for each level.
 
@@ -10,7 +10,7 @@ use crate::screen::Screen;
 use ps_delta::{CellState, Grid};
 use ps_grid::Cell;
 
-/// Expects the ranges of the formula of a touched cell.
+/// Notes the ranges of the formula of a touched cell.
 pub(crate) fn expect_sums(state: &CellState, shown: &mut Screen)
     ensures { shown.new ≡ shown.old }
 {
@@ -32,7 +32,7 @@ pub(crate) fn remember_sums(grid: &Grid, cells: &[Cell], shown: &mut Screen)
     }
 }
 
-/// The same for one cell.
+/// Remembers what the formula of a cell of the grid sums, if a long range was ever expected.
 #[inline(always)]
 pub(crate) fn remember_sums_of(grid: &Grid, cell: Cell, shown: &mut Screen)
     ensures { shown.new ≡ shown.old }

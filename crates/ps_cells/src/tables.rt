@@ -1,4 +1,4 @@
-//! What the cells of a sheet hold and show, and what is kept beside it so that a change costs what its region costs.
+//! What the cells of a sheet hold and show, with the tables that make a change cost only its region.
 
 ghost use Rattle.std.specs.Prelude.{◌≡◌, ◌+◌, ◌<◌, ◌≤◌, ◌++◌, ◌∷◌, [], ℕ, true, false, filter, length, nat_eq};
 ghost use Rattle.std.specs.Prelude.{not, vec_capacity, IfOk, IfErr, OnOk, OnErr};
@@ -33,7 +33,7 @@ use std::alloc::Global;
 use std::sync::ledger::Ledger;
 use std::thread::Threads;
 
-/// What the cells hold and show, and the tables by which that is worked out.
+/// What the cells hold and show, and the tables by which a change is recalculated.
 #[derive(Drop)]
 pub(crate) struct Tables {
     /// what each cell holds
@@ -44,7 +44,7 @@ pub(crate) struct Tables {
     pub(crate) shown: Screen,
     /// the region of the last change
     region: Region,
-    /// the cell of which this is still the region, where it alone was touched
+    /// the cell that alone was touched when `region` was found, as long as that is still its region
     source: Option<Cell>,
     /// the cells that show `#CYCLE!`, each once
     pub(crate) cyclic: Vec<Cell>,
@@ -68,9 +68,7 @@ pub struct Work {
 }
 
 impl Work {
-    /// No work.
-    ///
-    /// Cost: none.
+    /// Returns the report of no work.
     #[inline(always)]
     pub fn none() -> Work
         ensures evaluated { result.evaluated ≡ 0 }
@@ -88,7 +86,7 @@ impl Work {
 impl Tables {
     /// Cells that hold and show nothing.
     ///
-    /// Refused only when out of memory.
+    /// Fails only when out of memory.
     pub(crate) fn new(alloc: Global, workers: usize) -> Result<Tables, Refusal>
         requires workers { (0 < workers) × (workers ≤ WORKERS) }
         ensures whole { IfOk result IsWhole }
@@ -112,10 +110,10 @@ impl Tables {
         })
     }
 
-    /// Joins a delta to what the cells hold, and settles again what they show. The work that this was. The touched
-    /// cells are listed, each with the state that it had.
+    /// Joins a delta to what the cells hold, and recalculates what they show. Returns the work that this was. Lists the
+    /// touched cells, each with the state that it had.
     ///
-    /// Refused only when out of memory, and then the cells hold and show what they did.
+    /// Fails only when out of memory, and then the cells hold and show what they did.
     pub(crate) fn join<R: Threads + Sync, G: Gate, L: Ledger>(
         &mut self,
         rt: &R,
@@ -152,8 +150,8 @@ impl Tables {
         Ok(self.recalculate(rt, gate, how, &lists.touched, &mut lists.first, meter))
     }
 
-    /// Leaves a change as it was made, where these were the states of the touched cells, which leave the list. It takes
-    /// no memory.
+    /// Commits a change. `olds` has the touched cells with the states that they had, and is emptied. It takes no
+    /// memory.
     #[inline(always)]
     pub(crate) fn leave(&mut self, olds: &mut Vec<(Cell, CellState)>)
         requires pending { (s : State) × IsPending s self.old olds.old.items }
@@ -166,8 +164,8 @@ impl Tables {
         self.shown.keep();
     }
 
-    /// Takes a change back, where these were the states of the touched cells, in whose place are those that they got by
-    /// it. It takes no memory.
+    /// Cancels a change. `olds` has the touched cells with the states that they had, and gets those that the change
+    /// gave them. It takes no memory.
     pub(crate) fn take_back(&mut self, olds: &mut [(Cell, CellState)])
         requires pending { (s : State) × IsPending s self.old olds.old }
         ensures whole { IsWhole self.new }
@@ -183,7 +181,8 @@ impl Tables {
         self.source = None;
     }
 
-    /// Settles what the cells show, once the touched cells have what they hold, in the way in which the change began.
+    /// Recalculates what the cells show, once the touched cells hold their new states, in the way in which the change
+    /// began.
     #[inline(always)]
     fn recalculate<R: Threads + Sync, G: Gate, L: Ledger>(
         &mut self,
@@ -212,8 +211,8 @@ impl Tables {
         }
     }
 
-    /// Settles what the cells show where one cell is touched, it has no formula, no formula refers to it, and no cell
-    /// was cyclic: it is the region, and shows its first value.
+    /// Shows the value of the one touched cell. It has no formula, no formula refers to it, and no cell was cyclic: so
+    /// the cell is the region, and shows its first value.
     #[inline(always)]
     fn show_sole(&mut self, cell: Cell, kept: Kept) -> Work
         requires may { MayRecalculate self.old (cell ∷ []) ((cell, kept) ∷ []) }
@@ -229,7 +228,7 @@ impl Tables {
         Work::none()
     }
 
-    /// The same for any number of touched cells, which are listed with their first values.
+    /// As `show_sole`, for any number of touched cells, which are listed with their first values.
     fn show_alone(&mut self, first: &mut Vec<(Cell, Kept)>) -> Work
         requires may { MayRecalculate self.old (cells_in first.old.items) first.old.items }
         requires alone { list_all (is_alone (formula_at (state_at self.old.grid)) (listed self.old.index))
@@ -245,8 +244,8 @@ impl Tables {
         Work::none()
     }
 
-    /// Settles what the cells show, by the region of the change. It isn't inlined, so that a change of cells that are
-    /// alone makes no room for its locals.
+    /// Recalculates what the cells show, by the region of the change. It isn't inlined, so that a change of cells that
+    /// are alone makes no room for its locals.
     #[inline(never)]
     fn recalculate_region<R: Threads + Sync, G: Gate, L: Ledger>(
         &mut self,
@@ -306,7 +305,7 @@ impl Tables {
     }
 }
 
-/// A table of `n` flags, none of which is set.
+/// A table of `n` flags, all clear.
 pub(crate) fn no_flags(alloc: Global, n: usize) -> Result<Vec<bool>, Refusal>
     ensures length { IfOk result (λ v. length v.items ≡ n) }
     ensures off { IfOk result (λ v. (c : ℕ) → flag_at v.items c ≡ false) }
@@ -316,7 +315,7 @@ pub(crate) fn no_flags(alloc: Global, n: usize) -> Result<Vec<bool>, Refusal>
     Ok(flags)
 }
 
-/// Whether a cell of the region is among those that are cyclic, which are listed.
+/// Whether a cell of the region is listed as cyclic.
 fn meets_cyclic(region: &Region, shown: &Screen, cyclic: &[Cell]) -> bool
     requires listed { ShowCycle (shown_at shown.now.kept) (shown_at shown.now.kept) cyclic.now }
     ensures { result ≡ false
@@ -332,8 +331,8 @@ fn any_cyclic(shown: &Screen, cells: &[Cell]) -> bool
     cells.iter().any(|c| shown.is_cyclic(*c))
 }
 
-/// Brings the list of the cyclic cells up to date: those outside the region stay, and those of the region come after.
-/// Where the region met none of the list, it costs what the region's do.
+/// Updates the list of the cyclic cells: those outside the region stay, and those of the region follow. If the region
+/// met none of the list, this costs only the region's cyclic cells.
 fn renew(region: &Region, met: bool, cyclic: &mut Vec<Cell>)
     requires unmet { met ≡ false → filter (λ c. not (list_any (nat_eq c) region.now.members)) cyclic.old.items
         ≡ cyclic.old.items }
@@ -344,11 +343,11 @@ fn renew(region: &Region, met: bool, cyclic: &mut Vec<Cell>)
     ensures room { vec_capacity cyclic.old ≤ vec_capacity cyclic.new }
 {
     leave_outside(region, met, cyclic);
-    // never refused, since there is room for these
+    // never fails, since there is room for these
     let _ = cyclic.extend_from_slice(region.cyclic());
 }
 
-/// Leaves the cells of a list that lie outside the region, which are all where it met none of them.
+/// Removes the cells of the region from a list; there are none if the region met none of the list.
 fn leave_outside(region: &Region, met: bool, cyclic: &mut Vec<Cell>)
     requires unmet { met ≡ false → filter (λ c. not (list_any (nat_eq c) region.now.members)) cyclic.old.items
         ≡ cyclic.old.items }
@@ -360,7 +359,7 @@ fn leave_outside(region: &Region, met: bool, cyclic: &mut Vec<Cell>)
     }
 }
 
-/// Leaves the cells in a list that show `#CYCLE!`.
+/// Removes the cells that don't show `#CYCLE!` from a list.
 fn keep_cyclic(shown: &Screen, cells: &mut Vec<Cell>)
     ensures items { cells.new.items ≡ filter (λ c. is_waiting (shown_at shown.now.kept c)) cells.old.items }
     ensures room { vec_capacity cells.old ≤ vec_capacity cells.new }

@@ -1,6 +1,6 @@
-//! That cells may go to another thread.
+//! Proof that cells may go to another thread.
 //!
-//! The search for this finds no proof over the whole at once, so its parts are taken one after another.
+//! The search for this proof fails over the whole at once, so it takes the parts one after another.
 ghost use denote.Param.Send.{IsSend, IsSync};
 ghost use Rattle.ps_cells.specs.contracts.cells.Cells as cells;
 
@@ -16,9 +16,7 @@ fn is_send_and_sync<T: Send + Sync>()
     ensures sync { IsSync T.row }
 {}
 
-/// Cells may go to another thread.
-///
-/// Cost: none.
+/// States that cells may go to another thread.
 pub fn cells_are_send()
     ensures { IsSend cells.the_row }
 {

@@ -1,4 +1,4 @@
-//! The walk of a recalculation: what the touched and the cyclic cells show, then level after level.
+//! The walk of a recalculation: the touched and the cyclic cells first, then level after level.
 
 ghost use Rattle.std.specs.Prelude.{◌≡◌, ◌+◌, ◌<◌, ◌≤◌, ◌||◌, ℕ, List, true, false, length, map, nat_eq};
 ghost use Rattle.std.specs.Iterator.{AlwaysYields, IsFinite};
@@ -45,7 +45,7 @@ fn flag_each<W: Iterator<Item = Cell> + Drop>(walk: W, flags: &mut [bool])
     }
 }
 
-/// Flags the cells that refer to a cell. They are walked only where there may be several.
+/// Flags the cells that refer to a cell. They are walked only if there may be several.
 #[inline(always)]
 fn flag_dependents(index: &Index, cell: Cell, flags: &mut [bool])
     requires whole { length flags.old ≡ CELLS }
@@ -61,7 +61,7 @@ fn flag_dependents(index: &Index, cell: Cell, flags: &mut [bool])
     }
 }
 
-/// Lets a cell show a value, and flags the cells that refer to it where that is another one than it showed.
+/// Lets a cell show a value, and flags the cells that refer to it if the value is another one than before.
 #[inline(always)]
 pub(crate) fn show(index: &Index, cell: Cell, kept: Kept, shown: &mut Screen, flags: &mut [bool])
     requires whole { length flags.old ≡ CELLS }
@@ -77,7 +77,7 @@ pub(crate) fn show(index: &Index, cell: Cell, kept: Kept, shown: &mut Screen, fl
     }
 }
 
-/// Lets cells show their first values, which leave the list.
+/// Lets cells show their first values, and empties the list.
 #[inline(always)]
 pub(crate) fn put_all_first(first: &mut Vec<(Cell, Kept)>, shown: &mut Screen)
     ensures put { shown_at shown.new.kept ≡ put_back first.old.items (shown_at shown.old.kept) }
@@ -88,7 +88,7 @@ pub(crate) fn put_all_first(first: &mut Vec<(Cell, Kept)>, shown: &mut Screen)
     }
 }
 
-/// Looks after a touched cell: flags it where it has a formula, and else lets it show its value.
+/// Flags a touched cell if it has a formula, or else lets it show its value.
 #[inline(always)]
 fn show_first(
     grid: &Grid,
@@ -111,7 +111,8 @@ fn show_first(
     }
 }
 
-/// Looks after the touched cells, which come with their first values, and leaves nothing in place of these.
+/// Flags the touched cells that have a formula, and lets the others show their first values. The entries of the list
+/// then store nothing.
 #[inline(always)]
 pub(crate) fn show_all_first(
     grid: &Grid,
@@ -145,7 +146,7 @@ pub(crate) fn close_all(cells: &[Cell], shown: &mut Screen)
     }
 }
 
-/// Settles the frame, level after level. How many cells were evaluated.
+/// Recalculates the frame, level after level. Returns how many cells were evaluated.
 pub(crate) fn settle_frame<R: Threads + Sync, G: Gate, L: Ledger>(
     workers: &Workers<'_, R, G>,
     inputs: &Inputs<'_>,
@@ -178,7 +179,7 @@ pub(crate) fn settle_frame<R: Threads + Sync, G: Gate, L: Ledger>(
     evaluated
 }
 
-/// Takes away the flags of cells.
+/// Clears the flags of cells.
 pub(crate) fn clear(cells: &[Cell], flags: &mut [bool])
     requires whole { length flags.old ≡ CELLS }
     requires within { (c : ℕ) → flag_at flags.old c ≡ true → In cells.now c }

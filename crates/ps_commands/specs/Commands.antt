@@ -30,8 +30,8 @@ abbrev pub table_of : Bool → ℕ → ℕ → SheetView → List ℕ
 table_of entries records fields sheet =
     if records == 0 then [] else cells_text entries (from_first records fields) sheet
 
--- the empty sheet of replica 1 took in the table of the bytes, and the text is the table of the entries that it has
--- then, or else of what it shows
+-- the empty sheet of replica 1 read the table of the bytes, and the text is the table of its entries, or else of what
+-- it shows
 pub record IsTableOf (entries : Bool) (bytes text : List ℕ) : Type 0 where
   pub records : ℕ
   pub fields : ℕ
@@ -42,8 +42,8 @@ pub record IsTableOf (entries : Bool) (bytes text : List ℕ) : Type 0 where
   pub settled : IsSheet filled
   pub shown : text ≡ table_of entries records fields filled
 
--- the causes of a fault: of a refusal memory, a device, too many bytes, or the first fault of the table for an empty
--- sheet; else that `csv`'s own reader failed. A source had `old` and has `new` to come
+-- what each fault means. A refusal is out of memory, a device, too many bytes, or the table's first fault for an empty
+-- sheet; else `csv`'s own reader failed. The source had `old` left, and has `new`
 abbrev pub IsCauseOf : Option (List ℕ) → Option (List ℕ) → ProgramFault → Type 0
 IsCauseOf old new (Refused e) = TableFault (joined_history []) old new e
 IsCauseOf old new (ReaderFailed error) = WholeTable old new (λ bytes. ReaderFails (joined_history []) bytes error)

@@ -1,4 +1,4 @@
--- A sheet that is kept in a file, and why a file isn't taken.
+-- A sheet that is stored in a file, and why a file is refused.
 use Rattle.std.specs.Prelude.{◌≡◌, ◌⊎◌, ℕ, List, ⊤}
 use Rattle.ps_grid.specs.declared.refusal.Refusal.TheVariants.{Device, Memory}
 use Rattle.ps_sheet.specs.Sheet.{IsSheet, SheetView}
@@ -13,7 +13,7 @@ use Rattle.ps_commands.specs.declared.kept.FileNotTaken.{FileNotTaken}
 use Rattle.ps_commands.specs.declared.kept.KeptTrouble.{KeptTrouble}
 use Rattle.ps_commands.specs.declared.kept.KeptTrouble.TheVariants as troubles
 
--- a sheet of this replica, with so many workers, and the journal that keeps it
+-- a sheet of this replica with so many workers, and its journal
 pub record IsKeptSheet (replica workers : ℕ) (sheet : SheetView) (journal : JournalView) : Type 0 where
   pub is_sheet : IsSheet sheet
   pub replica_asked : sheet.replica ≡ replica
@@ -22,27 +22,27 @@ pub record IsKeptSheet (replica workers : ℕ) (sheet : SheetView) (journal : Jo
   pub noted : IsNoted replica sheet.history journal
   pub kept : IsKept replica sheet.history journal
 
--- a sheet of this replica, whose history a start reads of the bytes of a file
+-- a sheet of this replica, with the history that a start reads from the bytes of a file
 pub record IsReadSheet (replica : ℕ) (sheet : SheetView) : Type 0 where
   pub is_sheet : IsSheet sheet
   pub replica_asked : sheet.replica ≡ replica
   pub bytes : List ℕ
   pub read : Reads replica bytes sheet.history
 
--- the fault tells of this trouble, or that there was no memory to tell of it
+-- the fault reports this trouble, or that allocation failed
 abbrev pub TellsTrouble : KeptTrouble → ProgramFault → Type 0
 TellsTrouble trouble fault =
     (fault ≡ Refused Memory) ⊎ ((kept : FileNotTaken) × (kept.trouble ≡ trouble) × (fault ≡ KeptFailed kept))
 
--- what there is about the bytes of a file that a start of this replica is refused for: the first line that may not
--- stand there, or the replica whose sheet it is
+-- why a start of this replica refuses the bytes of a file: the first line that may not stand there, or the replica
+-- whose sheet it is
 abbrev pub IsTroubleOf : ℕ → List ℕ → KeptTrouble → Type 0
 IsTroubleOf replica bytes (troubles.Line number) = IsFaultOf replica bytes (keeps.Line number)
 IsTroubleOf replica bytes (troubles.Replica other) = IsFaultOf replica bytes (keeps.Replica other)
 IsTroubleOf replica bytes troubles.Busy = ⊥
 
--- why a start of this replica is refused, with these bytes in its file: for these bytes, out of memory, or since the
--- device failed
+-- why a start of this replica is refused with these bytes in its file: the bytes, out of memory, or a device that
+-- failed
 abbrev pub IsFileRefusal : ℕ → List ℕ → ProgramFault → Type 0
 IsFileRefusal replica bytes (Refused Memory) = ⊤
 IsFileRefusal replica bytes (Refused Device) = ⊤

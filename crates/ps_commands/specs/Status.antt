@@ -11,7 +11,7 @@ use Rattle.ps_commands.specs.declared.kept.KeptTrouble.{KeptTrouble}
 use Rattle.ps_commands.specs.declared.kept.KeptTrouble.TheVariants as troubles
 use Rattle.ps_commands.specs.declared.port.PortFault.{PortFault}
 
--- 1 where another program keeps the file, 3 where it has no lines of the replica's sheet
+-- 1 if another program has the file, 3 if it doesn't have lines of the replica's sheet
 abbrev pub kept_status : KeptTrouble → ℕ
 kept_status troubles.Busy = 1
 kept_status _ = 3
@@ -37,11 +37,11 @@ session_fault _ = Refused Device
 abbrev pub IsServerFault : ProgramFault → Type 0
 IsServerFault f = (f ≡ Refused Memory) ⊎ (f ≡ Refused Seat) ⊎ (f ≡ Refused Device)
 
--- the port that a fault tells of
+-- the port that a fault is about
 abbrev pub port_fault_of : ProgramFault → Option PortFault
 port_fault_of (PortFailed p) = Some p
 port_fault_of _ = None
 
--- the fault is that this port can't be had
+-- the fault is that this port can't be used
 abbrev pub HasNoPort : ℕ → ProgramFault → Type 0
 HasNoPort port f = (p : PortFault) × (p.port ≡ port) × (f ≡ PortFailed p)

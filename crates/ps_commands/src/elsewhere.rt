@@ -1,6 +1,8 @@
-//! What is told of a kept sheet: what was opened, and that it is pushed changes of its own replica that it hasn't got.
+//! Lines for standard error, written while a command runs.
 //!
-//! Nothing that is done or replied depends on it. What can't be written, or has no memory, is lost.
+//! They report the file that was opened, changes that the sheet's own replica made elsewhere, and connections that
+//! can't be accepted for now. No reply and no change depends on them. A line is lost if it can't be written, or if
+//! allocation fails.
 use crate::explain::Onlooker;
 use crate::fault::ProgramFault;
 use crate::kept::OpenedFile;
@@ -12,12 +14,14 @@ use std::alloc::Global;
 use std::fmt;
 use std::io::Write;
 
-/// That a replica makes changes elsewhere, too: a line for standard error, without its line feed.
+/// The warning that a replica also makes changes elsewhere, or that its file has lost lines.
+///
+/// Its text is a line for standard error, without the line feed.
 #[derive(Clone, Copy, Debug)]
 pub struct NumberElsewhere<'a> {
     /// The replica.
     pub replica: u8,
-    /// The path of the file that its sheet is kept in, as it was given.
+    /// The path of the sheet's file, as it was given.
     pub path: &'a str,
 }
 
@@ -32,35 +36,80 @@ impl fmt::Display for NumberElsewhere<'_> {
     }
 }
 
-/// Tells once, where it is told anything, that a replica makes changes elsewhere.
-#[derive(Drop)]
-pub struct Warner<'a, W: Write + Drop> {
-    alloc: Global,
-    /// what is still to be told, and who is told it
-    left: Option<(NumberElsewhere<'a>, W)>,
-}
+/// The warning that a server can accept no connection for now.
+///
+/// Its text is a line for standard error, without the line feed.
+#[derive(Clone, Copy, Debug, PartialEq, Eq)]
+pub struct Crowded;
 
-impl<'a, W: Write + Drop> Warner<'a, W> {
-    /// One that tells this writer, or nobody.
-    ///
-    /// Cost: constant.
-    pub fn new(alloc: Global, left: Option<(NumberElsewhere<'a>, W)>) -> Warner<'a, W> {
-        Warner { alloc, left }
+impl fmt::Display for Crowded {
+    fn fmt<W: fmt::Write>(&self, f: &mut fmt::Formatter<W>) -> fmt::Result {
+        f.write_str(
+            "no more connections for now: too many files are open (ulimit -n), or memory is lacking",
+        )
     }
 }
 
-impl<W: Write + Drop> Warn for Warner<'_, W> {
-    /// Tells it, where it wasn't told yet.
-    ///
-    /// Cost: constant, and what the writer takes.
-    fn warn(&mut self) {
-        if let Some((number, mut out)) = self.left.take() {
-            tell_line(self.alloc, &number, &mut out);
+/// The two warnings of a running command, each written at most once: changes made elsewhere, and connections that can't
+/// be accepted. Without a writer nothing is written.
+#[derive(Drop)]
+pub struct Warner<'a, W: Write + Drop> {
+    alloc: Global,
+    /// the writer, if there is one
+    out: Option<W>,
+    /// the warning of the replica, until it is written
+    elsewhere: Option<NumberElsewhere<'a>>,
+    /// the warning of connections, until it is written
+    crowded: Option<Crowded>,
+}
+
+impl<'a, W: Write + Drop> Warner<'a, W> {
+    /// Returns a warner that writes both warnings to the writer of `left`, or nothing if `left` is `None`.
+    pub fn new(alloc: Global, left: Option<(NumberElsewhere<'a>, W)>) -> Warner<'a, W> {
+        let (elsewhere, out) = match left {
+            Some((number, out)) => (Some(number), Some(out)),
+            None => (None, None),
+        };
+        Warner {
+            alloc,
+            out,
+            elsewhere,
+            crowded: Some(Crowded),
+        }
+    }
+
+    /// Returns a warner that writes to `out`, and only the warning of connections.
+    pub fn of_connections(alloc: Global, out: W) -> Warner<'a, W> {
+        Warner {
+            alloc,
+            out: Some(out),
+            elsewhere: None,
+            crowded: Some(Crowded),
         }
     }
 }
 
-/// Tells what was opened from the file of this path, and gives who warns the same writer.
+impl<W: Write + Drop> Warn for Warner<'_, W> {
+    /// Writes the warning of the replica, unless it was written already.
+    ///
+    /// Cost: constant, and what the writer takes.
+    fn warn(&mut self) {
+        if let (Some(number), Some(out)) = (self.elsewhere.take(), self.out.as_mut()) {
+            tell_line(self.alloc, &number, out);
+        }
+    }
+
+    /// Writes the warning of connections, unless it was written already.
+    ///
+    /// Cost: constant, and what the writer takes.
+    fn warn_of_crowd(&mut self) {
+        if let (Some(crowded), Some(out)) = (self.crowded.take(), self.out.as_mut()) {
+            tell_line(self.alloc, &crowded, out);
+        }
+    }
+}
+
+/// Reports the opened file on `out`, and returns a [`Warner`] that writes there too.
 ///
 /// Cost: constant, and what the writer takes.
 pub fn tell_opened<'a, W: Write + Drop>(
@@ -76,8 +125,10 @@ pub fn tell_opened<'a, W: Write + Drop>(
     Warner::new(alloc, Some((NumberElsewhere { replica, path }, out)))
 }
 
-/// Looks on at a session of a kept sheet as an [`Onlooker`] does, and warns at once where the session is pushed changes
-/// of the replica's own that the sheet hadn't.
+/// An observer of a session of a sheet that is stored in a file.
+///
+/// It does what an [`Onlooker`] does. It also warns at once when a line pushes changes of the sheet's own replica that
+/// the sheet doesn't have.
 #[derive(Drop)]
 pub struct KeptOnlooker<'a, W: Write + Drop> {
     onlooker: Onlooker<W>,
@@ -85,16 +136,12 @@ pub struct KeptOnlooker<'a, W: Write + Drop> {
 }
 
 impl<'a, W: Write + Drop> KeptOnlooker<'a, W> {
-    /// An onlooker that has this one look on, too, and this warner warn.
-    ///
-    /// Cost: constant.
+    /// Creates an observer that forwards to `onlooker` and warns through `warner`.
     pub fn new(onlooker: Onlooker<W>, warner: Warner<'a, W>) -> KeptOnlooker<'a, W> {
         KeptOnlooker { onlooker, warner }
     }
 
-    /// The end of a session, as [`Onlooker::end`] has it.
-    ///
-    /// Cost: constant.
+    /// Ends the session, as [`Onlooker::end`] does.
     pub fn end(&self, strict: bool) -> Result<(), ProgramFault> {
         self.onlooker.end(strict)
     }

@@ -1,6 +1,7 @@
-//! What is told of lines and of fields of a table while they are taken in, with hints.
+//! Notes with hints about lines of a session, and about fields of a table, written while they are read.
 //!
-//! It only looks on: nothing that is done or replied depends on it. What it can't write, or has no memory for, is lost.
+//! They only observe: no reply and no change depends on them. A note is lost if it can't be written, or if allocation
+//! fails.
 
 use crate::fault::ProgramFault;
 use crate::notice::tell_line;
@@ -11,24 +12,23 @@ use ps_lines::{Outcome, Watcher};
 use std::alloc::Global;
 use std::io::Write;
 
-/// Looks on at a session, counts its lines, and tells of those that have a hint; or looks on while a table is read, and
-/// tells of each field that looks like a number or a formula and is a text, up to the first that is refused, and of
-/// that.
+/// An observer that writes a note about each line, or each field of a table, that has a hint.
+///
+/// In a session it also counts the lines. In a table it writes about each field that looks like a number or a formula
+/// but is a text. Its note about the first refused field is the last one.
 #[derive(Drop)]
 pub struct Onlooker<W: Write + Drop> {
     alloc: Global,
-    /// Who is told; nobody where nothing is to be told.
+    /// The writer of the notes, if any are to be written.
     out: Option<W>,
-    /// How many lines ended; 2^64 - 1 stands for more.
+    /// The number of lines that ended; 2^64 - 1 stands for more, too.
     lines: u64,
-    /// How many of them were refused; 2^64 - 1 stands for more.
+    /// The number of them that were refused; 2^64 - 1 stands for more, too.
     refused: u64,
 }
 
 impl<W: Write + Drop> Onlooker<W> {
-    /// An onlooker that has seen nothing, and tells this writer; it only counts where there is none.
-    ///
-    /// Cost: constant.
+    /// Returns an onlooker that has seen nothing and writes notes to `out`. Without `out` it only counts.
     pub fn new(alloc: Global, out: Option<W>) -> Onlooker<W> {
         Onlooker {
             alloc,
@@ -38,9 +38,7 @@ impl<W: Write + Drop> Onlooker<W> {
         }
     }
 
-    /// The end of a session: a fault where it was to be strict and a line was refused.
-    ///
-    /// Cost: constant.
+    /// Ends a session: fails with [`ProgramFault::LinesRefused`] if it is `strict` and a line was refused.
     pub fn end(&self, strict: bool) -> Result<(), ProgramFault> {
         if strict && self.refused > 0 {
             return Err(ProgramFault::LinesRefused(self.refused));
@@ -48,9 +46,7 @@ impl<W: Write + Drop> Onlooker<W> {
         Ok(())
     }
 
-    /// Who was told.
-    ///
-    /// Cost: constant.
+    /// Returns the writer of the notes, if there is one.
     pub fn into_out(self) -> Option<W> {
         let Onlooker { out, .. } = self;
         out
@@ -74,8 +70,8 @@ impl<W: Write + Drop> Watcher for Onlooker<W> {
     }
 }
 
-/// Tells of a line that has a hint.
-// Not inlined, so that its room isn't made where nobody is told.
+/// Writes the note about a line, if it has a hint.
+// Not inlined, so that a session without notes needs no stack space for them.
 #[inline(never)]
 fn tell_hint<W: Write>(
     alloc: Global,

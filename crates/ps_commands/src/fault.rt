@@ -12,7 +12,25 @@ use ps_grid::Refusal;
 use ps_peers::SyncFault;
 use ps_session::RunFault;
 use std::alloc::AllocError;
+use std::fmt;
 use thiserror::Error;
+
+/// A text of another program, with each control character as `\u{..}`: so it can't command the terminal that shows it.
+#[derive(Clone, Copy)]
+struct Spelled<'a>(&'a str);
+
+impl fmt::Display for Spelled<'_> {
+    fn fmt<W: fmt::Write>(&self, f: &mut fmt::Formatter<W>) -> fmt::Result {
+        for c in self.0.chars() {
+            if c.is_control() {
+                write!(f, "\\u{{{:x}}}", u32::from(c))?;
+            } else {
+                write!(f, "{c}")?;
+            }
+        }
+        Ok(())
+    }
+}
 
 /// What ended the program. Its text is the line that standard error gets: `err`, the refusal's number and its name, or
 /// a peer's own such line.
@@ -24,8 +42,8 @@ pub enum ProgramFault {
     /// `csv`'s own reader failed over a table, with this error. The text is that of `Csv`.
     #[error("{}", Refusal::Csv)]
     ReaderFailed(csv::Error),
-    /// A peer refused a request. The text is its reply, as it came.
-    #[error("{0}")]
+    /// A peer refused a request. The text is its reply, with each control character spelled out.
+    #[error("{}", Spelled(.0.as_str()))]
     PeerRefused(String),
     /// So many lines of a strict session were refused.
     #[error("refused lines: {0}")]
@@ -70,6 +88,7 @@ impl From<SyncFault> for ProgramFault {
         match fault {
             SyncFault::Refused(refusal) => ProgramFault::Refused(refusal),
             SyncFault::PeerRefused(reply) => ProgramFault::PeerRefused(reply),
+            SyncFault::Closed => ProgramFault::Refused(Refusal::Line),
         }
     }
 }

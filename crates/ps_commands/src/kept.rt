@@ -6,6 +6,7 @@ ghost use Rattle.ps_commands.specs.Status.{kept_status};
 ghost use Rattle.ps_commands.specs.declared.fault.ProgramFault.TheVariants.{Refused};
 
 use crate::fault::ProgramFault;
+use crate::squash::squash_first;
 use ps_eval::Meter;
 use ps_grid::Refusal;
 use ps_keep::{FileFault, Found, FoundFile, KeptFile};
@@ -31,8 +32,8 @@ pub enum KeptTrouble {
     Busy,
 }
 
-/// A file that isn't taken to keep a sheet in, and why. Its text is two lines, without the last line feed: the refusal,
-/// and what is told of the file.
+/// A file that is refused for a sheet, and why. Its text is two lines, without the last line feed: the refusal, and the
+/// trouble of the file.
 #[derive(Debug, Drop)]
 pub struct FileNotTaken {
     /// The path of the file, as it was given.
@@ -76,7 +77,7 @@ impl fmt::Display for FileNotTaken {
 }
 
 /// The fault of a file that isn't taken; out of memory another one.
-fn not_taken(alloc: Global, path: &str, trouble: KeptTrouble) -> ProgramFault
+pub(crate) fn not_taken(alloc: Global, path: &str, trouble: KeptTrouble) -> ProgramFault
     ensures { TellsTrouble trouble result }
 {
     match path.to_string(alloc) {
@@ -89,7 +90,7 @@ fn not_taken(alloc: Global, path: &str, trouble: KeptTrouble) -> ProgramFault
 /// Refused as `Device` where it is no regular file or can't be opened for reading and writing, and as `Memory`.
 ///
 /// Cost: linear in the file, and its memory.
-fn open_file<R: Files<File = File>>(
+pub(crate) fn open_file<R: Files<File = File>>(
     rt: &R,
     alloc: Global,
     path: &str,
@@ -104,11 +105,16 @@ fn open_file<R: Files<File = File>>(
     }
 }
 
-/// Reads the sheet of the replica that was asked for of the file that it is kept in, and keeps it there from then on,
-/// as [`open_kept`] does. The path is that of the file, for the fault that tells of it.
+/// Reads the sheet of the replica that `options` ask for from its file, and logs its changes there from then on.
 ///
-/// A line that may not stand there, and a file of another replica, are faults of their own; then the file is as it was.
-/// Refused as `Memory`, and as `Device` where the device fails.
+/// It does so as [`open_kept`] does. `path` is that of the file, for the fault that names it.
+///
+/// # Errors
+///
+/// - [`ProgramFault::KeptFailed`] if a line may not stand there, or the file is another replica's. Then the file is as
+///   it was.
+/// - `Device` if the device fails.
+/// - `Memory`.
 ///
 /// Cost: that of [`open_kept`].
 pub fn keep_sheet<R: Threads + Sync, F: Found + Drop, L: Ledger>(
@@ -139,12 +145,17 @@ pub fn keep_sheet<R: Threads + Sync, F: Found + Drop, L: Ledger>(
     }
 }
 
-/// Opens the file of this path, or makes it, reads the sheet of the replica that was asked for of its bytes, and keeps
-/// the sheet there from then on.
+/// Opens or creates the file of this path, reads the sheet from it, and logs the sheet's changes there from then on.
 ///
-/// A file that another program keeps, a line that may not stand there, and a file of another replica are faults of
-/// their own. Refused as `Device` where it is no regular file or can't be opened for reading and writing, and where the
-/// device fails, and as `Memory`.
+/// The sheet is that of the replica that `options` ask for. If they ask for it, the file is squashed first, where that
+/// makes it at most half as long. If it can't be squashed, it stays.
+///
+/// # Errors
+///
+/// - [`ProgramFault::KeptFailed`] if another program has the file, a line may not stand there, or the file is another
+///   replica's.
+/// - `Device` if it is no regular file, can't be opened for reading and writing, or the device fails.
+/// - `Memory`.
 ///
 /// Cost: that of [`keep_sheet`], and the memory of the file's bytes.
 pub fn open_kept_sheet<R: Files<File = File> + Threads + Sync, L: Ledger>(
@@ -158,6 +169,9 @@ pub fn open_kept_sheet<R: Files<File = File> + Threads + Sync, L: Ledger>(
     ensures refused { IfErr result (λ f. (f ≡ Refused Refusal.Device) ⊎ TellsTrouble KeptTrouble.Busy f
         ⊎ ((bytes : List ℕ) × IsFileRefusal options.replica bytes f)) }
 {
+    if options.squash {
+        squash_first(resources, path, options.replica, meter);
+    }
     let found = match open_file(resources.threads, resources.alloc, path) {
         Ok(found) => found,
         Err(fault) => return Err(fault),

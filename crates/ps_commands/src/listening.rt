@@ -11,7 +11,7 @@ ghost use Rattle.ps_commands.specs.Kept.{IsReadSheet};
 ghost use Rattle.ps_commands.specs.Status.{HasNoPort, IsServerFault};
 ghost use Rattle.ps_commands.specs.declared.fault.ProgramFault.TheVariants.{Refused};
 
-use crate::elsewhere::tell_opened;
+use crate::elsewhere::{Warner, tell_opened};
 use crate::fault::ProgramFault;
 use crate::kept::open_kept_sheet;
 use crate::notice::{tell, tell_line};
@@ -94,12 +94,17 @@ fn tell_page<W: Write>(alloc: Global, port: u16, told: &mut W) {
     tell_line(alloc, &PageAddress { port }, told);
 }
 
-/// Listens on a port of this machine, opens an empty sheet of the replica that was asked for, writes `listening` and
-/// the port, serves sessions on the sheet as [`serve_on`] does, and writes `closed` and the version. Returns the sheet
-/// that it closed. `told` gets the address of the page.
+/// Serves sessions on an empty sheet at a port of this machine, as [`serve_on`] does, and returns the closed sheet.
 ///
-/// A port that can't be listened on is a fault of its own, at which nothing is written. Refused as `Memory` where there
-/// is none for the sheet, and as `Device` where `out` fails; else as [`serve_on`] is.
+/// It listens on the port, opens the sheet of the replica asked for, and writes `listening` and the port. At the end it
+/// writes `closed` and the version. `told` gets the address of the page, and the warning of connections.
+///
+/// # Errors
+///
+/// - [`ProgramFault::PortFailed`] if the port can't be listened on. Then nothing was written.
+/// - `Memory` if allocation of the sheet fails.
+/// - `Device` if `out` fails.
+/// - Otherwise those of [`serve_on`].
 ///
 /// Cost: that of opening a sheet, and of [`serve_on`].
 pub fn serve<
@@ -133,20 +138,29 @@ pub fn serve<
         Err(fault) => return Err(fault),
     }
     tell_page(resources.alloc, options.port, &mut told);
-    let closed = serve_on(resources, server_options(&listener, options), sheet)?;
+    let mut warner = Warner::of_connections(resources.alloc, told);
+    let closed = serve_on(
+        resources,
+        server_options(&listener, options),
+        sheet,
+        &mut warner,
+    )?;
     match tell_closed(&closed.sheet, out) {
         Ok(()) => Ok(closed),
         Err(fault) => Err(fault),
     }
 }
 
-/// Listens on a port of this machine, opens the sheet of the replica that was asked for from the file of this path, and
-/// writes `listening` and the port; then tells the address of the page and what it opened, serves sessions on the sheet
-/// as [`serve_kept_on`] does, whose warner tells the same writer, and writes `closed` and the version.
+/// Serves sessions on the sheet of a file at a port of this machine, as [`serve_kept_on`] does.
 ///
-/// A port that can't be listened on, and a file that isn't taken, are faults of their own, at which nothing is written.
+/// It listens on the port, opens the file of `path`, and writes `listening` and the port. At the end it writes `closed`
+/// and the version, and returns the closed sheet with its journal. `told` gets the address of the page, the opened
+/// file, and the warnings.
 ///
-/// The path is what `options.keep` has. It comes by itself too, so that no call can be made of options without a file.
+/// `path` is what `options.keep` has. It is a parameter of its own, so that no call can be made of options without a
+/// file.
+///
+/// A port that can't be listened on, and a file that is refused, are faults of their own. Then nothing was written.
 ///
 /// Cost: that of [`open_kept_sheet`] and of [`serve_kept_on`].
 pub fn serve_kept<

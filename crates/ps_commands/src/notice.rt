@@ -1,4 +1,4 @@
-//! The lines that a command writes of itself.
+//! Lines that report what a command does.
 ghost use Rattle.std.specs.Prelude.{◌≡◌, ◌<◌, ◌++◌, [], IfErr, OnErr, OnOk, decimal};
 ghost use Rattle.std.specs.Io.KnownBytes.{Appends};
 ghost use Rattle.ps_grid.specs.declared.refusal.Refusal.TheVariants.{Device};
@@ -12,8 +12,7 @@ use std::alloc::Global;
 use std::fmt::Display;
 use std::io::Write;
 
-/// Writes a word with its space, a number and a line feed, and hands all of it on. Refused as `Device` where the sink
-/// fails.
+/// Writes a word with its space, a number and a line feed, and flushes the sink. Fails as `Device` if the sink fails.
 pub(crate) fn tell<K: Sink>(word: &[u8], number: u64, out: &mut K) -> Result<(), ProgramFault>
     ensures told { OnOk result (Appends (K.contents out.old) (K.contents out.new) (notice word.now number)) }
     ensures flushed { OnOk result (K.waiting out.new ≡ []) }
@@ -24,7 +23,7 @@ pub(crate) fn tell<K: Sink>(word: &[u8], number: u64, out: &mut K) -> Result<(),
     tell_between(word, number, b"\n", out)
 }
 
-/// Writes a number between two texts, and hands all of it on. Refused as `Device` where the sink fails.
+/// Writes a number between two texts, and flushes the sink. Fails as `Device` if the sink fails.
 pub(crate) fn tell_between<K: Sink>(
     first: &[u8],
     number: u64,
@@ -46,7 +45,7 @@ pub(crate) fn tell_between<K: Sink>(
     Ok(())
 }
 
-/// Writes a text as a line, at once. What it can't write, or has no memory for, is lost.
+/// Writes a text as a line, at once. It is lost if it can't be written, or if allocation fails.
 pub(crate) fn tell_line<T: Display, W: Write>(alloc: Global, text: &T, out: &mut W) {
     if let Ok(line) = format!(in alloc; "{text}\n") {
         let _ = out.write_all(line.as_bytes());

@@ -20,7 +20,7 @@ pub(crate) struct PeerStream<'a> {
 }
 
 impl<'a> PeerStream<'a> {
-    /// A stream of which no failure was counted.
+    /// Returns the stream with no failure counted.
     pub(crate) fn new(stream: &'a TcpStream) -> PeerStream<'a>
         ensures input { result.input.parts ≡ 1 }
         ensures output { result.output.parts ≡ 1 }

@@ -1,4 +1,4 @@
-//! The ports of this machine, and why one can't be had.
+//! Ports of this machine, and why one can't be used.
 ghost use Rattle.std.specs.Prelude.{◌≡◌, IfErr};
 ghost use Rattle.ps_commands.specs.Status.{HasNoPort, port_fault_of};
 
@@ -7,27 +7,27 @@ use std::fmt;
 use std::io::ErrorKind;
 use std::net::{Ipv4Addr, Net, TcpListener, TcpStream};
 
-/// Why a port can't be had.
+/// Why a port can't be used.
 #[derive(Clone, Copy, Debug, PartialEq, Eq)]
 pub enum PortTrouble {
     /// Another program listens on it.
     Taken,
-    /// Whoever started the program may not listen on it.
+    /// The user of the program may not listen on it.
     Forbidden,
-    /// It can't be listened on, for a reason of the system's own.
+    /// Listening on it fails for another reason.
     Unheard,
     /// Nobody listens on it.
     Silent,
-    /// It can't be connected to, for a reason of the system's own.
+    /// Connecting to it fails for another reason.
     Unreached,
 }
 
-/// A port of this machine that can't be had, and why. Its text is one line, without its line feed.
+/// A port of this machine that can't be used, and why. Its text is one line, without its line feed.
 #[derive(Clone, Copy, Debug, PartialEq, Eq)]
 pub struct PortFault {
     /// The port.
     pub port: u16,
-    /// Why it can't be had.
+    /// Why it can't be used.
     pub trouble: PortTrouble,
 }
 
@@ -50,7 +50,7 @@ impl fmt::Display for PortFault {
     }
 }
 
-/// The address of the page of a server: a line for standard error, without its line feed.
+/// The address of a server's page. Its text is a line for standard error, without its line feed.
 #[derive(Clone, Copy, Debug, PartialEq, Eq)]
 pub struct PageAddress {
     /// The server's port.
@@ -64,9 +64,7 @@ impl fmt::Display for PageAddress {
     }
 }
 
-/// The port that a fault tells of, if it tells of one.
-///
-/// Cost: constant.
+/// Returns the port that a fault is about, if it is about one.
 pub fn port_fault(fault: &ProgramFault) -> Option<PortFault>
     ensures { result ≡ port_fault_of fault.now }
 {
@@ -99,7 +97,7 @@ pub(crate) fn listen<R: Net<Listener = TcpListener, Stream = TcpStream>>(
     Err(ProgramFault::PortFailed(PortFault { port, trouble }))
 }
 
-/// Connects to a port of this machine. A request isn't kept back until the one before is acknowledged.
+/// Connects to a port of this machine. Asks the system to send each request at once, without waiting for earlier ones.
 pub(crate) fn connect<R: Net<Stream = TcpStream>>(
     rt: &R,
     port: u16,
@@ -108,7 +106,7 @@ pub(crate) fn connect<R: Net<Stream = TcpStream>>(
 {
     let trouble = match TcpStream::connect(rt, (Ipv4Addr::LOCALHOST, port)) {
         Ok(stream) => {
-            // (without it a request may only come later)
+            // (if this fails, requests may only arrive later)
             let _ = stream.set_nodelay(true);
             return Ok(stream);
         }

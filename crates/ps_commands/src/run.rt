@@ -1,4 +1,4 @@
-//! The command `run`: lines in, the replies of a sheet out.
+//! The command `run`: reads lines, and writes the replies of a sheet.
 ghost use Rattle.std.specs.Prelude.{◌≡◌, ◌⊎◌, ◌<◌, ◌≤◌, ℕ, List, [], IfOk, IfErr, OnOk, false};
 ghost use Rattle.std.specs.Io.KnownBytes.{Consumes, IsAtEnd};
 ghost use Rattle.ps_sheet.specs.Sheet.{IsSheet, SheetView};
@@ -25,9 +25,9 @@ use std::alloc::Global;
 use std::sync::ledger::Ledger;
 use std::thread::Threads;
 
-/// The sheet that a session begins with: an empty one, of the replica and with the workers that were asked for.
+/// Returns the empty sheet that a session begins with, with the replica and the workers of `options`.
 ///
-/// Refused only out of memory.
+/// Fails only out of memory.
 ///
 /// Cost: that of [`Sheet::open`].
 pub fn open_sheet(alloc: Global, options: SheetOptions) -> Result<Sheet, Refusal>
@@ -38,15 +38,17 @@ pub fn open_sheet(alloc: Global, options: SheetOptions) -> Result<Sheet, Refusal
     Sheet::open(alloc, options.replica, usize::from(options.workers))
 }
 
-/// Opens an empty sheet of the replica that was asked for, and answers each line of the source on the sink, to the end
-/// of the input, while a watcher looks on.
+/// Answers each line of `source` on `sink` by an empty sheet, to the end of the input, while `watcher` observes.
 ///
-/// Refused as `Memory` where there is none to begin with, and as `Device` where the source or the sink fails. What was
-/// read and answered then is the transcript of the same empty sheet; the replies that were due before a read that
-/// failed are handed on still.
+/// The sheet has the replica and the workers of `options`. It isn't freed, since the program ends next.
 ///
-/// Cost: that of opening a sheet, and of [`converse`]. The memory of the sheet isn't given back, for the program
-/// ends next.
+/// # Errors
+///
+/// - `Memory` if allocation fails at the start. Then nothing was read or written.
+/// - `Device` if the source or the sink fails. What was read and answered until then is the transcript of that sheet.
+///   If a read failed, the replies due before it are still written.
+///
+/// Cost: that of opening a sheet, and of [`converse`].
 pub fn answer_lines<R: Threads + Sync, S: Source, K: Sink, L: Ledger, W: Watcher>(
     resources: Resources<'_, R>,
     source: &mut S,
@@ -88,17 +90,21 @@ pub fn answer_lines<R: Threads + Sync, S: Source, K: Sink, L: Ledger, W: Watcher
     Ok(())
 }
 
-/// Answers each line of the source on the output by a kept sheet, to the end of the input, while a watcher looks on.
-/// All that the session has seen is kept before any reply is handed on.
+/// Answers each line of `source` on `sink` by a durable sheet, to the end of the input, while `watcher` observes.
 ///
-/// At any end, also after a fault, there is a state of the sheet, between the lines that were carried out, whose
-/// history the journal has on the disk, and what was handed on are replies to the lines up to it (`IsCovered`). At the
-/// end of the input it is the last one.
+/// Before a reply is sent, all that the session has seen is durable.
 ///
-/// Refused as `Memory` where there is none to begin with, and as `Device` where the source, the sink or the keeper
-/// fails, after which nothing more is handed on.
+/// At any end, also after a fault, the journal has on the disk the history of a state that the sheet had between lines.
+/// All replies that were sent answer lines up to that state (`IsCovered`). At the end of the input it is the last one.
 ///
-/// Cost: that of [`converse`]. The memory of the sheet isn't given back, for the program ends next.
+/// The sheet isn't freed, since the program ends next.
+///
+/// # Errors
+///
+/// - `Memory` if allocation fails at the start. Then nothing was read, written or logged.
+/// - `Device` if the source, the sink or the keeper fails. Nothing more is sent then.
+///
+/// Cost: that of [`converse`].
 pub fn answer_kept<
     R: Threads + Sync,
     S: Source,
@@ -134,7 +140,7 @@ pub fn answer_kept<
     ensures memory { result ≡ Err (Refused Refusal.Memory)
         → (source.new ≡ source.old) × (sink.new ≡ sink.old) × (keeper.new ≡ keeper.old) }
 {
-    // for the law that what is noted is a beginning of a longer history still
+    // for its law: what was logged stays a beginning when the history grows
     longer_histories_fit();
     let mut sheet = sheet;
     let sheet_now = &mut sheet;

@@ -1,22 +1,42 @@
-//! The command `squash`: delta lines in, the few that say the same out.
-ghost use Rattle.std.specs.Prelude.{◌≡◌, ◌≢◌, ◌⊎◌, ◌<◌, ℕ, List, [], Err, IfErr, OnOk, take};
+//! The command `squash`: delta lines in, the few that say the same out; or a kept file, in its place.
+ghost use Rattle.std.specs.Prelude.{◌≡◌, ◌≢◌, ◌⊎◌, ◌<◌, ◌≤◌, ℕ, List, [], Err, IfErr, IfOk, OnOk, take};
 ghost use Rattle.std.specs.Io.KnownBytes.{Appends, Consumes, IsAtEnd};
+ghost use Rattle.ps_grid.specs.declared.parties.TheConstants.{REPLICAS};
 ghost use Rattle.ps_grid.specs.declared.refusal.Refusal.TheVariants as refusals;
 ghost use Rattle.ps_squash.specs.Squashed.{FirstFault, HasWideCell, IsSquashed};
 ghost use Rattle.ps_commands.specs.declared.fault.ProgramFault.TheVariants.{DeltaRefused, Refused};
 
 use crate::fault::ProgramFault;
+use crate::kept::{KeptTrouble, not_taken, open_file};
+use crate::notice::tell_line;
 use ps_device::{Sink, Source};
+use ps_eval::Meter;
 use ps_grid::Refusal;
+use ps_keep::{Found, first_line};
+use ps_lines::{KeptLine, read_kept_line};
+use ps_session::Resources;
+use ps_shorten::{NamedFile, ShortenFault, Shortened, Shortening, Worth, shorten};
 use ps_squash::{SquashFault, squash};
-use std::alloc::Global;
+use ps_wire::Decoder;
+use std::alloc::{AllocError, Global};
+use std::fmt;
+use std::fs::{File, exists};
+use std::io::Write;
+use std::rt::Files;
+use std::sync::ledger::Ledger;
+use std::thread::Threads;
 
-/// Reads delta lines to the end of the source, and writes the lines that push what they say together, as few as their
-/// cells need. At the end all that was written is handed on.
+/// Reads delta lines to the end of the source, and writes change lines that say the same, as few as their cells need.
 ///
-/// A line that is no delta's is a fault of its own, which has the line's number. Refused as `Device` where the source
-/// or the sink fails, as `TooLong` where the lines hold more of one cell than a line has room for, and as `Memory`.
-/// Nothing is written before all is read; where the sink failed a beginning of the due text was.
+/// Nothing is written before all is read. At the end the sink is flushed. If the sink failed, a beginning of the due
+/// text was written.
+///
+/// # Errors
+///
+/// - [`ProgramFault::DeltaRefused`], with the line's number, if a line is no delta's.
+/// - `Device` if the source or the sink fails.
+/// - `TooLong` if the lines hold more of one cell than a line has room for.
+/// - `Memory`.
 ///
 /// Cost: that of [`squash`].
 pub fn squash_on<S: Source, K: Sink>(
@@ -50,5 +70,113 @@ pub fn squash_on<S: Source, K: Sink>(
         Err(SquashFault::Memory) => Err(ProgramFault::Refused(Refusal::Memory)),
         Err(SquashFault::Source) => Err(ProgramFault::Refused(Refusal::Device)),
         Err(SquashFault::Sink) => Err(ProgramFault::Refused(Refusal::Device)),
+    }
+}
+
+/// What was squashed: a line for standard error, without its line feed.
+#[derive(Clone, Copy, Debug)]
+pub struct SquashedFile<'a> {
+    /// The path of the file, as it was given.
+    pub path: &'a str,
+    /// How many changes it had and has.
+    pub changes: Shortened,
+}
+
+impl fmt::Display for SquashedFile<'_> {
+    fn fmt<W: fmt::Write>(&self, f: &mut fmt::Formatter<W>) -> fmt::Result {
+        let Shortened { before, after } = self.changes;
+        write!(f, "squashed {}, {before} changes to {after}", self.path)
+    }
+}
+
+/// The fault of a file that isn't squashed.
+fn not_squashed(alloc: Global, path: &str, fault: ShortenFault) -> ProgramFault {
+    match fault {
+        ShortenFault::Memory => ProgramFault::Refused(Refusal::Memory),
+        ShortenFault::Device => ProgramFault::Refused(Refusal::Device),
+        ShortenFault::TooLong => ProgramFault::Refused(Refusal::TooLong),
+        ShortenFault::Line(number) => not_taken(alloc, path, KeptTrouble::Line(number)),
+        ShortenFault::Replica(number) => not_taken(alloc, path, KeptTrouble::Replica(number)),
+    }
+}
+
+/// The replica that the first line of these bytes tells, and 1 where it tells none. Refused out of memory.
+fn replica_told(alloc: Global, bytes: &[u8]) -> Result<u8, AllocError>
+    ensures { IfOk result (λ replica. (1 ≤ replica) × (replica ≤ REPLICAS)) }
+{
+    let Some((line, _)) = first_line(bytes) else {
+        return Ok(1);
+    };
+    let mut decoder = Decoder::new(alloc);
+    match read_kept_line(alloc, &mut decoder, line) {
+        Ok(Some(KeptLine::Replica(replica))) => Ok(replica),
+        Err(Refusal::Memory) => Err(AllocError),
+        // (a start of any replica refuses it)
+        Ok(Some(KeptLine::Push(_)) | None) | Err(_) => Ok(1),
+    }
+}
+
+/// Squashes the file of a durable sheet in its place, as [`shorten`] does, and reports its changes before and after.
+///
+/// # Errors
+///
+/// - [`ProgramFault::KeptFailed`] if another program has the file, or a line may not stand there or ends in a carriage
+///   return.
+/// - `Device` if there is no such file, it is no regular one, or it can't be read or replaced.
+/// - `TooLong` if the file holds more of one cell than a line has room for.
+/// - `Memory`.
+///
+/// Cost: that of [`shorten`].
+pub fn squash_kept<R: Files<File = File> + Threads + Sync, L: Ledger, W: Write>(
+    resources: Resources<'_, R>,
+    path: &str,
+    meter: &mut Meter<L>,
+    told: &mut W,
+) -> Result<(), ProgramFault> {
+    let Resources { threads, alloc } = resources;
+    // (opened, it would be made)
+    match exists(threads, path) {
+        Ok(true) => {}
+        Ok(false) | Err(_) => return Err(ProgramFault::Refused(Refusal::Device)),
+    }
+    let found = match open_file(threads, alloc, path) {
+        Ok(found) => found,
+        Err(fault) => return Err(fault),
+    };
+    let replica = replica_told(alloc, found.bytes())?;
+    let mut file = NamedFile::new(threads, alloc, path, found);
+    let asked = Shortening {
+        replica,
+        worth: Worth::Less,
+    };
+    match shorten(threads, alloc, &mut file, asked, meter) {
+        Ok(changes) => {
+            tell_line(alloc, &SquashedFile { path, changes }, told);
+            Ok(())
+        }
+        Err(fault) => Err(not_squashed(alloc, path, fault)),
+    }
+}
+
+/// Squashes the kept file of this path where that makes it at most half as long. Where it can't be squashed it stays:
+/// the start that follows says why it isn't taken, if it isn't.
+///
+/// Cost: that of [`shorten`].
+pub(crate) fn squash_first<R: Files<File = File> + Threads + Sync, L: Ledger>(
+    resources: Resources<'_, R>,
+    path: &str,
+    replica: u8,
+    meter: &mut Meter<L>,
+)
+    requires { (1 ≤ replica) × (replica ≤ REPLICAS) }
+{
+    let Resources { threads, alloc } = resources;
+    if let Ok(found) = open_file(threads, alloc, path) {
+        let mut file = NamedFile::new(threads, alloc, path, found);
+        let asked = Shortening {
+            replica,
+            worth: Worth::Half,
+        };
+        let _ = shorten(threads, alloc, &mut file, asked, meter);
     }
 }

@@ -1,4 +1,4 @@
-//! The command `sync`: all that one replica has, handed to another.
+//! The command `sync`: pushes all changes of one replica to another.
 ghost use Rattle.std.specs.Prelude.{◌≡◌, ◌≢◌, ℕ, [], IfErr, OnOk};
 ghost use Rattle.std.specs.Io.KnownBytes.{Appends};
 ghost use Rattle.ps_grid.specs.Blanks.{IsBlankOf};
@@ -18,7 +18,7 @@ use std::marker::Brand;
 use std::net::{Net, TcpStream};
 use std::sync::ledger::Ledger;
 
-/// Hands what the peer of one connection has to the peer of another.
+/// Pushes all changes of the peer of `first` to the peer of `second`, and returns the number of lines pushed.
 fn sync_between<I: Ledger, O: Ledger, J: Ledger, P: Ledger>(
     alloc: Global,
     first: PeerStream<'_>,
@@ -34,11 +34,16 @@ fn sync_between<I: Ledger, O: Ledger, J: Ledger, P: Ledger>(
     Ok(sync(alloc, &mut from, &mut to)?)
 }
 
-/// Connects to the two ports of this machine that were asked for, first to `from` and then to `to`, hands all that the
-/// replica at the one has to that at the other, and writes `synced` and the number of lines that were pushed.
+/// Pushes all changes of the replica at one port to the replica at another, and reports the number of lines pushed.
 ///
-/// A port that can't be connected to is a fault of its own. Refused as `Device` where a connection or `out` fails; else
-/// as [`sync`] is.
+/// It connects to `from` of `options` first, then to `to`; both are ports of this machine. At the end it writes
+/// `synced` and the number.
+///
+/// # Errors
+///
+/// - [`ProgramFault::PortFailed`] if a port can't be connected to.
+/// - `Device` if a connection or `out` fails.
+/// - Otherwise those of [`sync`].
 ///
 /// Cost: that of [`sync`], and 0.8 MB of memory.
 pub fn sync_on<R: Net<Stream = TcpStream>, K: Sink>(

@@ -1,4 +1,4 @@
-//! The command `table`: a table of entries in, the table of its settled values, or of its entries, out.
+//! The command `table`: reads a table of entries, and writes the table of its shown values or of its entries.
 ghost use Rattle.std.specs.Prelude.{◌≡◌, ◌≢◌, ◌<◌, ◌≤◌, ◌⊎◌, ℕ, List, [], IfErr, IfOk, OnOk, Err, take};
 ghost use Rattle.std.specs.Io.KnownBytes.{Appends, Consumes, IsAtEnd};
 ghost use Rattle.std.specs.Option.{SomeIff};
@@ -19,19 +19,24 @@ use std::alloc::Global;
 use std::sync::ledger::Ledger;
 use std::thread::Threads;
 
-/// Takes a table of entries into an empty sheet of replica 1, and writes the shown values from A1 to the last record
-/// and the most fields that a record has, or the entries of these cells where they are asked for; nothing where there
-/// is no record. At the end all that was written is handed on.
+/// Reads a table of entries into an empty sheet of replica 1, and writes the table of what it shows.
 ///
-/// Refused as an import or an export is: `Device` where one of the two fails, `Csv` where the source has too many
-/// bytes, and for the first fault of the table in reading order; `Memory` in place of any of them. That `csv`'s own
-/// reader failed is a fault of its own. Nothing is written before the whole table is taken in: where the source failed
-/// nothing was written, where the sink failed a beginning of the due text.
+/// If `options` ask for entries, it writes those instead. The table goes from A1 to the last record and the most fields
+/// of any record; without a record nothing is written. At the end the sink is flushed.
 ///
-/// A watcher sees the fields as they are read; it changes nothing.
+/// Nothing is written before the whole table is read. `watcher` sees the fields as they are read, and changes nothing.
+/// The sheet isn't freed, since the program ends next.
 ///
-/// Cost: that of an import and an export, and the watcher's own. The memory of the sheet isn't given back, for the
-/// program ends next.
+/// # Errors
+///
+/// - `Device` if the source or the sink fails. If the source failed, nothing was written. If the sink failed, a
+///   beginning of the due text was.
+/// - `Csv` if the source has too many bytes.
+/// - The refusal of the table's first fault in reading order.
+/// - [`ProgramFault::ReaderFailed`] if `csv`'s own reader failed.
+/// - `Memory`, in place of any of these.
+///
+/// Cost: that of an import and an export, and the watcher's own.
 pub fn table_on<R: Threads + Sync, S: Source, K: Sink, L: Ledger, W: TableWatcher>(
     resources: Resources<'_, R>,
     source: &mut S,
@@ -64,8 +69,7 @@ pub fn table_on<R: Threads + Sync, S: Source, K: Sink, L: Ledger, W: TableWatche
     }
 }
 
-/// An empty sheet of replica 1 with so many workers that took in a table of entries, with the table's records and
-/// fields.
+/// Returns an empty sheet of replica 1 that has read the table of `source`, with the table's records and fields.
 fn taken_in<R: Threads + Sync, S: Source, L: Ledger, W: TableWatcher>(
     resources: Resources<'_, R>,
     source: &mut S,
@@ -91,8 +95,8 @@ fn taken_in<R: Threads + Sync, S: Source, L: Ledger, W: TableWatcher>(
     }
 }
 
-/// Writes the table of the sheet's entries, or of what it shows, from A1 to the last record and the most fields, and
-/// hands it on.
+/// Writes the table of a sheet from A1 to the last record and the most fields, and flushes the sink. The table is of
+/// the entries if `entries` is true, else of what the sheet shows.
 fn put_table<K: Sink>(
     alloc: Global,
     sheet: &Sheet,
@@ -124,7 +128,7 @@ fn put_table<K: Sink>(
     }
 }
 
-/// Writes the table of the entries of a rectangle, or of what it shows.
+/// Writes the table of a rectangle: of its entries if `entries` is true, else of what it shows.
 fn put_cells<K: Sink>(
     alloc: Global,
     sheet: &Sheet,
@@ -148,7 +152,7 @@ fn put_cells<K: Sink>(
     }
 }
 
-/// The cells from A1 to the last record and the most fields; none where there is no record.
+/// Returns the cells from A1 to the last record and the most fields; none if there is no record.
 fn extent(imported: Imported) -> Option<Rect>
     requires records { imported.records ≤ ROWS }
     requires fields { imported.fields ≤ COLUMNS }

@@ -1,4 +1,4 @@
-//! The command `talk`: a session at a server, for whoever types lines or has a file of them.
+//! The command `talk`: a session at a server, for lines that a person types or a file has.
 ghost use Rattle.std.specs.Prelude.{◌≡◌, ◌⊎◌, ◌<◌, ℕ, List, [], Option, OnErr, OnOk};
 ghost use Rattle.ps_grid.specs.Blanks.{IsBlankOf};
 ghost use Rattle.ps_peers.specs.Asking.{IsConversed, IsInterrupted};
@@ -16,11 +16,15 @@ use std::marker::Brand;
 use std::net::{Net, TcpStream};
 use std::sync::ledger::Ledger;
 
-/// Connects to a port of this machine, asks the server there each line of the input, to its end, and writes the
-/// replies, each whole before the next line is read, while a watcher looks on.
+/// Sends each line of `input` to the server at a port of this machine, and writes its replies, to the end of the input.
 ///
-/// A port that can't be connected to is a fault of its own. Refused as `Device` where the input, the connection or
-/// `out` fails; else as [`ask_lines`] is.
+/// Each reply is written whole before the next line is read. `watcher` observes.
+///
+/// # Errors
+///
+/// - [`ProgramFault::PortFailed`] if the port can't be connected to.
+/// - `Device` if the input, the connection or `out` fails.
+/// - Otherwise those of [`ask_lines`].
 ///
 /// Cost: that of [`ask_lines`], and 0.4 MB of memory.
 pub fn talk_on<R: Net<Stream = TcpStream>, I: Source + Drop, K: Sink, W: Watcher>(

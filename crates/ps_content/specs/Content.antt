@@ -18,8 +18,8 @@ canonical_text (Formula tree) = canon tree
 canonical_text Tally = codes "@tally"
 canonical_text Choice = codes "@choice"
 
--- the contents that there are: a number has 64 bits, a text is a label, a formula is one by the grammar, and
--- not too long
+-- the contents that are allowed: a number has 64 bits, a text is a label, a formula is one by the grammar and not too
+-- long
 abbrev pub IsContent : Content → Type 0
 IsContent (Number number) = FitsSigned w64 number
 IsContent (Text label) = IsLabel label

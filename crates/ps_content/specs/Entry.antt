@@ -40,7 +40,7 @@ pub data Kind : Type 0 where
 unfoldable pub number_of : List ℕ → Option ℤ
 number_of bytes = if is_number bytes then Some (signed_digits_value 10 bytes) else None
 
--- an entry that is no number and no formula is a word or a text, from which one apostrophe in front is dropped
+-- an entry that is no number and no formula is a word or a text; one apostrophe in front is dropped
 unfoldable pub word_of : List ℕ → Kind
 word_of bytes =
     if bytes_eq bytes (codes "@tally") then tally
@@ -57,8 +57,8 @@ kind_of bytes =
     else if begins_formula bytes then formula
     else word_of bytes
 
--- a formula entry is the formula that it has by the grammar; it is refused where it has none, and where the
--- canonical text is too long
+-- a formula entry is its formula by the grammar; it is refused where it has none, and where the canonical text is too
+-- long
 pub record ReadsFormula (bytes : List ℕ) (result : Result Content Refusal) : Type 0 where
   pub found : IfOk result (λ c. (tree : Tree) × (c ≡ Formula tree) × HasTree bytes tree
       × (length (canon tree) ≤ LONGEST_TEXT))
@@ -69,12 +69,12 @@ pub record ReadsFormula (bytes : List ℕ) (result : Result Content Refusal) : T
       → (tree : Tree) × HasTree bytes tree × (LONGEST_TEXT < length (canon tree))
   pub refused : IfErr result (λ e. (e ≡ refusals.Formula) ⊎ ((e ≡ refusals.TooLong) ⊎ (e ≡ refusals.Memory)))
 
--- a text is that text where it is a label, and is refused where it is none
+-- a text entry is that text where it is a label, and is refused where it is none
 abbrev pub ReadsText : Bool → List ℕ → Result Content Refusal → Type 0
 ReadsText true label result = MatchResult result (λ c. c ≡ Text label) (λ e. e ≡ refusals.Memory)
 ReadsText false label result = result ≡ Err refusals.Text
 
--- to read an entry takes memory: it is a formula or a label
+-- reading an entry takes memory where it is a formula or a label
 abbrev pub takes_memory : Kind → Bool
 takes_memory formula = true
 takes_memory (text label) = is_label label

@@ -9,7 +9,7 @@ use Rattle.ps_formula.specs.Tree.{Tree}
 use Rattle.ps_content.specs.declared.content.Content.{Content}
 use Rattle.ps_content.specs.declared.content.Content.TheVariants.{Blank, Number, Text, Formula, Tally, Choice}
 
--- the place of a content's kind among the kinds, which ascend
+-- the position of a content's kind among the kinds, which ascend
 abbrev pub kind_place : Content → ℕ
 kind_place Blank = 0
 kind_place (Number number) = 1
@@ -18,12 +18,12 @@ kind_place (Formula tree) = 3
 kind_place Tally = 4
 kind_place Choice = 5
 
--- the number that a content is, and 0 for others
+-- the number of a content, and 0 for those that are no number
 abbrev pub number_in : Content → ℤ
 number_in (Number number) = number
 number_in _ = pos 0
 
--- the bytes of the text that a content is, and none for others
+-- the bytes of a text, and none for other contents
 abbrev pub text_in : Content → List ℕ
 text_in (Text label) = label
 text_in _ = []

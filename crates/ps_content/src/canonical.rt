@@ -1,4 +1,4 @@
-//! Canonical texts: what travels.
+//! Canonical texts: the form in which contents travel.
 
 ghost use Rattle.std.specs.Prelude.{◌≡◌, ◌++◌, bytes_eq, codes, IfOk, IfErr, IfSome, MatchResult, Some};
 ghost use Rattle.std.specs.Fmt.{signed_decimal};
@@ -12,9 +12,11 @@ use itoa::Buffer;
 use ps_grid::Refusal;
 use std::alloc::Global;
 
-/// The content whose canonical text the bytes are, and none for any other bytes. Refused only when out of memory.
+/// Returns the content whose canonical text the bytes are; `None` for any other bytes.
 ///
-/// Cost: linear in the bytes, and an allocation for a text; those of a formula are as `Formula::read` says.
+/// Refused only when out of memory.
+///
+/// Cost: linear in the bytes, with one allocation for a text; a formula allocates as `Formula::read` says.
 pub fn read_canonical(alloc: Global, bytes: &[u8]) -> Result<Option<Content>, Refusal>
     ensures read { (c : Contents) → IsContent c → bytes.now ≡ canonical_text c
         → MatchResult result (λ found. found ≡ Some c) (λ e. e ≡ Memory) }
@@ -38,7 +40,7 @@ pub fn read_canonical(alloc: Global, bytes: &[u8]) -> Result<Option<Content>, Re
 }
 
 impl Content {
-    /// Whether these bytes are the canonical text of the content.
+    /// Returns whether these bytes are the canonical text of the content.
     ///
     /// Cost: linear in the bytes.
     fn is_written(&self, bytes: &[u8]) -> bool

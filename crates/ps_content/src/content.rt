@@ -12,20 +12,20 @@ use ps_grid::{Refusal, Twin};
 use ps_value::{Label, SharedLabel};
 use std::alloc::Global;
 
-/// What a cell's register holds. The kinds ascend in the order in which they stand here.
+/// The content of a cell's register. The kinds ascend in the order of the variants.
 #[derive(Drop)]
 pub enum Content {
-    /// Nothing is shown.
+    /// Nothing; the cell shows nothing.
     Blank,
     /// A whole number.
     Number(i64),
     /// A text.
     Text(SharedLabel),
-    /// A formula, whose value is shown.
+    /// A formula; the cell shows its value.
     Formula(SharedFormula),
-    /// The cell's counter is shown.
+    /// The mark that the cell shows its counter.
     Tally,
-    /// The cell's set of options is shown.
+    /// The mark that the cell shows its set of options.
     Choice,
 }
 
@@ -46,9 +46,7 @@ impl Content {
     ghost use Rattle.ps_content.specs.Content.{canonical_text, IsContent};
     ghost use Rattle.ps_content.specs.Order.{formula_in};
 
-    /// The formula that the content is, if it is one.
-    ///
-    /// Cost: constant.
+    /// Returns the formula that the content is, if it is one.
     pub fn formula(&self) -> Option<&Formula>
         ensures { option_copied result ≡ formula_in self.now }
     {
@@ -58,7 +56,7 @@ impl Content {
         }
     }
 
-    /// Appends the canonical text of the content. Refused only when out of memory, and then the text is as before.
+    /// Appends the canonical text of the content. Refused only when out of memory, and then `out` is as before.
     ///
     /// Cost: linear in the text that is appended.
     pub fn canonical(&self, out: &mut Vec<u8>) -> Result<(), Refusal>

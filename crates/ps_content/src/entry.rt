@@ -15,20 +15,20 @@ use ps_grid::{Refusal, read_digits};
 use ps_value::{Label, SharedLabel};
 use std::alloc::Global;
 
-/// The content that an entry stands for. The first line that fits decides:
+/// Returns the content that an entry stands for. The first line that fits decides:
 ///
 /// - longer than 512 bytes: refused as `TooLong`;
 /// - empty: blank;
 /// - digits, perhaps after a sign, of a number of 64 bits: that number;
-/// - beginning with `=` or `of:=`: the formula that it has by the grammar; refused as `Formula` where it has none, and
-///   as `TooLong` where the canonical text would pass 256 bytes;
+/// - beginning with `=` or `of:=`: its formula by the grammar. It is refused as `Formula` where it has none, and as
+///   `TooLong` where the canonical text would pass 256 bytes;
 /// - `@tally` and `@choice`: those;
 /// - beginning with an apostrophe: the text after it, refused as `Text` where that is no label;
 /// - anything else: that text, refused as `Text` where it is no label.
 ///
 /// Only a formula and a text take memory: nothing else is refused as out of memory.
 ///
-/// Cost: linear in the bytes, and an allocation for a text; those of a formula are as `Formula::read` says.
+/// Cost: linear in the bytes, with one allocation for a text; a formula allocates as `Formula::read` says.
 pub fn read_entry(alloc: Global, bytes: &[u8]) -> Result<Content, Refusal>
     ensures { Reads (kind_of bytes.now) bytes.now result }
 {
@@ -99,7 +99,7 @@ fn read_formula(alloc: Global, bytes: &[u8]) -> Result<Content, Refusal>
     Ok(Content::Formula(shared))
 }
 
-/// The word or the text that an entry is which is no number and no formula.
+/// The word or the text that an entry is, if it is no number and no formula.
 fn read_word(alloc: Global, bytes: &[u8]) -> Result<Content, Refusal>
     ensures { Reads (word_of bytes.now) bytes.now result }
 {

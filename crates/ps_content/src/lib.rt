@@ -6,12 +6,12 @@
 //! The entry `+007` is the number 7, whose canonical text is `7`. The entry `'7` is a text, whose canonical text is
 //! the entry itself. The entry `of:= sum([.B2:.A1])` is a formula, whose canonical text is `=SUM([.A1:.B2])`.
 //!
-//! The contract to use: `read_entry` reads an entry by the table of `specs/Entry.antt`; `Content::canonical` appends
-//! the one canonical text of a content, and `read_canonical` finds a content in just such a text; contents are in a
+//! The contract to use: `read_entry` reads an entry by the table of `specs/Entry.antt`. `Content::canonical` appends
+//! the one canonical text of a content, and `read_canonical` finds a content in exactly such a text. Contents are in a
 //! linear order, and a twin equals its original.
 //!
-//! Cost: an entry is read in time linear in its bytes, of which there are at most 512; all else is constant but for
-//! the texts that are copied or compared.
+//! Cost: an entry is read in time linear in its bytes, at most 512. All else is constant, except that texts are copied
+//! and compared byte by byte.
 #![tactic(auto)]
 
 mod canonical;

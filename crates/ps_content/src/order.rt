@@ -41,7 +41,7 @@ impl Content {
         }
     }
 
-    /// The place of the content's kind among the kinds.
+    /// The position of the content's kind among the kinds.
     fn kind_place(&self) -> u8
         ensures { result ≡ kind_place self.now }
     {

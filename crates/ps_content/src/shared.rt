@@ -8,7 +8,7 @@ use std::alloc::Global;
 use std::marker::Model;
 use std::sync::Arc;
 
-/// A formula with any number of owners. A contract sees it as the formula's tree, whoever shares it.
+/// A formula with any number of owners. A contract sees it as the tree of the formula, whoever owns it.
 #[derive(Drop)]
 pub struct SharedFormula {
     formula: Arc<Formula>,
@@ -28,7 +28,7 @@ impl Model for SharedFormula {
 }
 
 impl SharedFormula {
-    /// The formula, with one owner. Refused only when out of memory.
+    /// Creates a shared formula with one owner. Refused only when out of memory.
     ///
     /// Cost: one allocation.
     pub fn new(alloc: Global, formula: Formula) -> Result<SharedFormula, Refusal>
@@ -39,9 +39,7 @@ impl SharedFormula {
         Ok(SharedFormula { formula })
     }
 
-    /// The formula that is shared.
-    ///
-    /// Cost: constant.
+    /// Returns the formula.
     pub fn formula(&self) -> &Formula
         ensures { result.now ≡ self.now }
     {

@@ -1,7 +1,7 @@
 -- The records of a table, assigned one after another.
 use Rattle.std.proofs.Common.{◌≡◌, ◌+◌, ◌<◌, ◌≤◌, ◌∷◌, ◌++◌, ◌∙◌, [], ℕ, List, map, length, take, drop, Bool}
 use Rattle.std.proofs.Common.{true, false}
-use Rattle.std.proofs.Common.{refl, ap, sym, subst, arith, Result, Ok, Err, get_or}
+use Rattle.std.proofs.Common.{refl, ap, sym, subst, arith, append_assoc, Result, Ok, Err, get_or}
 use Rattle.std.specs.Result.{IsOkAnd}
 use Rattle.std.specs.Global.{Vec}
 use Rattle.std.specs.List.{list_any}
@@ -40,6 +40,12 @@ assigned_one r h k (c ∷ cs) batch some is made =
     let Makes = λ (xs : Cells). IsOkAnd (delta_of_edit r (joined_history h) (SetAll xs)) (λ d. k ≡ h ++ d ∷ []) in
     let made_of = subst Makes is made in
     ok_and (delta_of_edit r (joined_history h) (SetAll (c ∷ cs))) (λ d. k ≡ h ++ d ∷ []) made_of
+
+-- an edit that was made of deltas after a history was made of the history with them
+pub made_after : (h xs ys : List Entries) (answer : Result Entries Refusal)
+    → IsOkAnd answer (λ d. ys ≡ xs ++ d ∷ []) → IsOkAnd answer (λ d. h ++ ys ≡ (h ++ xs) ++ d ∷ [])
+made_after h xs ys (Ok d) is = ap (λ (ds : List Entries). h ++ ds) is ∙ sym (append_assoc h xs (d ∷ []))
+made_after h xs ys (Err e) is = absurd is
 
 pub assigned_none : (r : ℕ) (h : List Entries) (cells : Cells) → (IsBatch cells → ⊥)
     → IsStrictlyIncreasing (map (λ e. e.0) cells)
@@ -101,6 +107,18 @@ pub assigned-nothing : (r : ℕ) (h : List Entries) (all : List Cells) → Assig
 unfolding Assigned
 assigned-nothing r h [] = refl
 assigned-nothing r h (c ∷ cs) = refl
+
+pub assigned_all_none : (r : ℕ) (h : List Entries) (items : List (Vec (ℕ × Content))) → items ≡ []
+    → Assigned r h (cells_of_each items) h
+unfolding Assigned
+assigned_all_none r h [] none = refl
+assigned_all_none r h (x ∷ items) none = absurd (cc)
+
+pub assigned_so_few : (r : ℕ) (h k : List Entries) (all : List Cells) (n : ℕ) → n ≡ 0 → k ≡ h
+    → Assigned r h (take n all) k
+assigned_so_few r h k all n none is =
+    subst (λ (m : ℕ). Assigned r h (take m all) k) (sym none)
+    (subst (λ (g : List Entries). Assigned r h (take 0 all) g) (sym is) (assigned-nothing r h all))
 
 drop_none : (xs : List Cells) → drop 0 xs ≡ xs
 drop_none [] = refl

@@ -9,7 +9,7 @@ use Rattle.ps_csv.specs.Faults.{TableFault, TableReaderFails}
 use Rattle.ps_csv.specs.Imports.{ImportsTable, LieInGrid, ReadToEnd, StopsAfter}
 
 -- TAKES IN: what it comes to when the table of a source is to be taken into a sheet. It was taken in, all of it; or it
--- is refused for its cause, and nothing was assigned, but where memory ran out between two edits: then the records
+-- is refused for its cause, and nothing was assigned, but where memory ran out amid the records: then the records
 -- before that stand. The source was `before` and is `after`, the sheet was `old` and is `new`, and a meter had counted
 -- `counted_before` evaluations and has counted `counted_after`
 pub record TakesIn {S : Type 0} (remaining : S → Option (List ℕ)) (failures : S → ℕ) (before after : S)

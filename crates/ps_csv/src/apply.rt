@@ -1,8 +1,11 @@
 //! The contents of a table, assigned to a sheet.
 
-ghost use Rattle.std.specs.Prelude.{◌≡◌, ◌⊎◌, ◌<◌, ◌∷◌, [], List, None, length, map, take, IfErr, OnOk, OnErr};
+ghost use Rattle.std.specs.Prelude.{◌≡◌, ◌⊎◌, ◌↔◌, ◌<◌, ◌≤◌, ◌∷◌, ◌++◌, [], List, true, None, Err, length, map, take};
+ghost use Rattle.std.specs.Prelude.{IfErr, OnOk, OnErr};
 ghost use Rattle.std.specs.List.Sorted.{IsStrictlyIncreasing};
-ghost use Rattle.ps_delta.specs.Deltas.{joined_history};
+ghost use Rattle.ps_grid.specs.declared.parties.TheConstants.{REPLICAS};
+ghost use Rattle.ps_delta.specs.Deltas.{Entries, joined_history};
+ghost use Rattle.ps_sheet.specs.Arrivals.{Follow};
 ghost use Rattle.ps_sheet.specs.Edits.{delta_of_edit};
 ghost use Rattle.ps_sheet.specs.Sheet.{IsSheet};
 ghost use Rattle.ps_delta.specs.declared.edit.Edit.TheVariants.{SetAll};
@@ -15,12 +18,12 @@ use ps_content::Content;
 use ps_delta::{Batch, Edit};
 use ps_eval::Meter;
 use ps_grid::{Cell, Refusal};
-use ps_sheet::Sheet;
+use ps_sheet::{Arrivals, Sheet};
 use std::alloc::Global;
 use std::sync::ledger::Ledger;
 use std::thread::Threads;
 
-/// Assigns the contents of each record, one record after another.
+/// Assigns the contents of each record, one record after another, and settles the sheet once, after the last.
 pub(crate) fn apply<R: Threads + Sync, L: Ledger>(
     rt: &R,
     alloc: Global,
@@ -42,9 +45,79 @@ pub(crate) fn apply<R: Threads + Sync, L: Ledger>(
     ensures workers { sheet.new.workers ≡ sheet.old.workers }
     ensures sheet { IsSheet sheet.new }
 {
+    if has_none(&batches) {
+        return Ok(());
+    }
+    let mut arrivals = match Arrivals::after(alloc, sheet) {
+        Ok(arrivals) => arrivals,
+        Err(refusal) => return Err(refusal.into()),
+    };
+    let made = make_all(alloc, sheet, batches, &mut arrivals);
+    match settle(rt, alloc, arrivals, sheet, meter) {
+        Ok(()) => made,
+        Err(refusal) => Err(refusal.into()),
+    }
+}
+
+/// Whether there are no records.
+fn has_none(batches: &Vec<Vec<(Cell, Content)>>) -> bool
+    ensures { (result ≡ true) ↔ (batches.now.items ≡ []) }
+{
+    batches.is_empty()
+}
+
+/// Appends the deltas that were made, and settles the sheet once. Does nothing if there are none.
+fn settle<R: Threads + Sync, L: Ledger>(
+    rt: &R,
+    alloc: Global,
+    arrivals: Arrivals,
+    sheet: &mut Sheet,
+    meter: &mut Meter<L>,
+) -> Result<(), Refusal>
+    requires follow { Follow sheet.old.history arrivals }
+    requires sheet { IsSheet sheet.old }
+    ensures appended { OnOk result (sheet.new.history ≡ sheet.old.history ++ arrivals.deltas) }
+    ensures none { arrivals.deltas ≡ [] → (sheet.new ≡ sheet.old) × (meter.new ≡ meter.old) }
+    ensures memory { IfErr result (λ e. e ≡ Refusal.Memory) }
+    ensures kept { OnErr result ((sheet.new ≡ sheet.old) × (meter.new ≡ meter.old)) }
+    ensures replica { sheet.new.replica ≡ sheet.old.replica }
+    ensures workers { sheet.new.workers ≡ sheet.old.workers }
+    ensures sheet { IsSheet sheet.new }
+{
+    if arrivals.is_empty() {
+        return Ok(());
+    }
+    match sheet.receive_all(rt, alloc, arrivals, meter) {
+        Ok(_) => Ok(()),
+        Err(refusal) => Err(refusal),
+    }
+}
+
+/// Makes the delta of each record that has contents, after those of the records before it. If allocation fails, the
+/// deltas made so far stand, and the fault counts their records.
+fn make_all(
+    alloc: Global,
+    sheet: &Sheet,
+    batches: Vec<Vec<(Cell, Content)>>,
+    arrivals: &mut Arrivals,
+) -> Result<(), ImportFault>
+    requires said { (table : List Record)
+        × RecordsSay (joined_history sheet.now.history) 0 table (cells_of_each batches.items) }
+    requires sheet { IsSheet sheet.now }
+    requires none { arrivals.old.deltas ≡ [] }
+    requires follow { Follow sheet.now.history arrivals.old }
+    ensures assigned { OnOk result (Assigned sheet.now.replica sheet.now.history (cells_of_each batches.items)
+        (sheet.now.history ++ arrivals.new.deltas)) }
+    ensures stopped { IfErr result (λ f. Assigned sheet.now.replica sheet.now.history
+        (take f.applied (cells_of_each batches.items)) (sheet.now.history ++ arrivals.new.deltas)) }
+    ensures short { IfErr result (λ f. f.applied < length batches.items) }
+    ensures memory { IfErr result (λ f. (f.refusal ≡ Refusal.Memory) × (f.reader_error ≡ None)) }
+    ensures none { IfErr result (λ f. f.applied ≡ 0 → arrivals.new.deltas ≡ []) }
+    ensures follow { Follow sheet.now.history arrivals.new }
+{
     let mut applied = 0;
     for cells in batches {
-        match assign(rt, alloc, cells, sheet, meter) {
+        match assign(alloc, sheet.replica(), cells, arrivals) {
             Ok(()) => {}
             Err(refusal) => {
                 return Err(ImportFault {
@@ -59,29 +132,25 @@ pub(crate) fn apply<R: Threads + Sync, L: Ledger>(
     Ok(())
 }
 
-/// Assigns the contents of one record by one edit, if it has any.
-fn assign<R: Threads + Sync, L: Ledger>(
-    rt: &R,
+/// Makes the delta of one record, if it has any contents.
+fn assign(
     alloc: Global,
+    replica: u8,
     cells: Vec<(Cell, Content)>,
-    sheet: &mut Sheet,
-    meter: &mut Meter<L>,
+    arrivals: &mut Arrivals,
 ) -> Result<(), Refusal>
     requires ascending { IsStrictlyIncreasing (map (λ e. e.0) cells.items) }
-    requires sheet { IsSheet sheet.old }
-    ensures assigned { OnOk result
-        (Assigned sheet.old.replica sheet.old.history (cells.items ∷ []) sheet.new.history) }
-    ensures refused { IfErr result (λ e. (e ≡ Refusal.Memory)
-        ⊎ (delta_of_edit sheet.old.replica (joined_history sheet.old.history) (SetAll cells.items) ≡ Err e)) }
-    ensures replica { sheet.new.replica ≡ sheet.old.replica }
-    ensures workers { sheet.new.workers ≡ sheet.old.workers }
-    ensures sheet { IsSheet sheet.new }
-    ensures kept { OnErr result (sheet.new ≡ sheet.old) }
-    ensures unmetered { OnErr result (meter.new ≡ meter.old) }
+    requires replica { (1 ≤ replica) × (replica ≤ REPLICAS) }
+    ensures assigned { OnOk result ((h : List Entries) → Follow h arrivals.old
+        → Assigned replica (h ++ arrivals.old.deltas) (cells.items ∷ []) (h ++ arrivals.new.deltas)) }
+    ensures follow { (h : List Entries) → Follow h arrivals.old → Follow h arrivals.new }
+    ensures refused { IfErr result (λ e. (e ≡ Refusal.Memory) ⊎ ((h : List Entries) → Follow h arrivals.old
+        → delta_of_edit replica (joined_history (h ++ arrivals.old.deltas)) (SetAll cells.items) ≡ Err e)) }
+    ensures kept { OnErr result (arrivals.new.deltas ≡ arrivals.old.deltas) }
 {
     match Batch::new(cells) {
-        Some(batch) => match sheet.edit(rt, alloc, Edit::SetAll(batch), meter) {
-            Ok(_) => Ok(()),
+        Some(batch) => match arrivals.edit(alloc, replica, Edit::SetAll(batch)) {
+            Ok(()) => Ok(()),
             Err(refusal) => Err(refusal),
         },
         None => Ok(()),

@@ -8,13 +8,13 @@ use ps_device::{Failed, PIECE_BYTES, Source};
 use ps_grid::{CELLS, Refusal};
 use std::alloc::Global;
 
-/// How many bytes of a table fall to a cell: an entry has at most 512, and what is left is for quotes and a comma.
+/// The bytes of a table for each cell of the grid: an entry has at most 512, and the rest is for quotes and a comma.
 const BYTES_PER_CELL: usize = 640;
 
 /// The most bytes of a table: 68,157,440. It depends on the size of the grid alone, and no other limit depends on it.
 pub const LONGEST_TABLE: usize = BYTES_PER_CELL * CELLS;
 
-/// The bytes of the source, to its end. No more are taken out once they are too many.
+/// The bytes of the source, to its end. Reading stops once there are too many.
 pub(crate) fn read_all<S: Source>(alloc: Global, source: &mut S) -> Result<Vec<u8>, Refusal>
     ensures read { IfOk result (λ bytes.
         Consumes (S.remaining source.old) (S.remaining source.new) bytes.items × IsAtEnd (S.remaining source.new)) }

@@ -10,11 +10,14 @@ use ps_grid::{Cell, Rect, Refusal};
 use std::alloc::Global;
 use std::sync::ledger::Ledger;
 
-/// Writes the entries of a rectangle, the canonical texts of what its cells hold: a record for each row, a field for
-/// each cell, each record ended by LF.
+/// Writes the entries of a rectangle, the canonical texts of what its cells hold, as a table.
 ///
-/// `Memory` where memory ran out, and then nothing was written; `Device` where the sink failed, and then a beginning of
-/// the text was written.
+/// Each row is a record, each cell a field, and LF ends each record.
+///
+/// # Errors
+///
+/// - `Memory` if allocation fails; nothing was written then.
+/// - `Device` if the sink fails; a beginning of the text was written then.
 ///
 /// Cost: c + b, for c cells of the rectangle and b bytes of the text, which is built in memory before it is written.
 pub fn export_entries<H: Holds, K: Sink>(
@@ -28,9 +31,9 @@ pub fn export_entries<H: Holds, K: Sink>(
     export_rows(alloc, &EntryTexts { holds }, rect, sink)
 }
 
-/// The text that `export_entries` writes, for a caller that has to have it before it writes anything.
+/// Returns the text that `export_entries` writes, for a caller that needs it before it writes anything.
 ///
-/// Refused only where memory ran out.
+/// Fails only when out of memory.
 ///
 /// Cost: c + b, for c cells of the rectangle and b bytes of the text, and memory for b bytes.
 pub fn entries_text<H: Holds>(alloc: Global, holds: &H, rect: Rect) -> Result<Vec<u8>, Refusal>
@@ -40,9 +43,9 @@ pub fn entries_text<H: Holds>(alloc: Global, holds: &H, rect: Rect) -> Result<Ve
     rows_text(alloc, &EntryTexts { holds }, rect)
 }
 
-/// The entry of a cell: the canonical text of what it holds.
+/// Returns the entry of a cell: the canonical text of what it holds.
 ///
-/// Refused only where memory ran out.
+/// Fails only when out of memory.
 ///
 /// Cost: the bytes of the text, and memory for them.
 pub fn entry_of<H: Holds>(alloc: Global, holds: &H, cell: Cell) -> Result<Vec<u8>, Refusal>

@@ -11,11 +11,11 @@ use ps_grid::Refusal;
 /// Why a table wasn't taken in, and how many of its records were.
 #[derive(Debug, Drop)]
 pub struct ImportFault {
-    /// Why.
+    /// The reason.
     pub refusal: Refusal,
-    /// How many records were taken in, and stand: above 0 only where memory ran out.
+    /// The number of records that were taken in and stand: above 0 only when out of memory.
     pub applied: usize,
-    /// Where `csv`'s own reader failed, and no fault of the table is why: its error, which only `csv` can make.
+    /// The error of `csv`'s own reader, if it failed without a fault of the table; only `csv` can make it.
     pub reader_error: Option<Error>,
 }
 
@@ -31,7 +31,7 @@ impl From<Refusal> for ImportFault {
     }
 }
 
-/// The fault of an error of `csv`: memory ran out, or its reader failed.
+/// The fault for an error of `csv`: out of memory, or a failure of its reader.
 pub(crate) fn fault_of(error: Error) -> ImportFault
     ensures { result ≡ fault_of_kind (error_kind error) error }
 {

@@ -15,7 +15,7 @@ use ps_grid::{COLUMNS, Cell, Refusal};
 use ps_sheet::Sheet;
 use std::alloc::Global;
 
-/// The contents that the fields of record n say for their cells, in order.
+/// The contents that the fields of record n give their cells, in order.
 pub(crate) fn read_record<W: TableWatcher>(
     alloc: Global,
     sheet: &Sheet,
@@ -41,7 +41,7 @@ pub(crate) fn read_record<W: TableWatcher>(
     Ok(cells)
 }
 
-/// Appends the content that a field says for its cell, if it isn't empty.
+/// Appends the content that a field gives its cell, if the field isn't empty.
 fn take_field<W: TableWatcher>(
     alloc: Global,
     sheet: &Sheet,

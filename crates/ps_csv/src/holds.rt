@@ -8,16 +8,14 @@ use ps_content::Content;
 use ps_grid::Cell;
 use ps_sheet::Sheet;
 
-/// Whoever knows what each cell's register holds.
+/// A type that knows what each cell's register holds.
 pub trait Holds {
     ghost use Rattle.ps_csv.specs.Exports.{Holdings};
 
     /// What each cell's register holds; blank where nothing was assigned to it.
     ghost held_at: { Self → Holdings };
 
-    /// What a cell's register holds, where something was assigned to it.
-    ///
-    /// Cost: constant.
+    /// Returns what a cell's register holds; none if nothing was assigned to it.
     fn held(&self, cell: Cell) -> Option<&Content>
         ensures { unwrap_or (option_copied result) blank ≡ held_at self.now cell };
 }

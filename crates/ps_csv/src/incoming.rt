@@ -23,32 +23,40 @@ use std::alloc::Global;
 use std::sync::ledger::Ledger;
 use std::thread::Threads;
 
-/// What was taken in.
+/// The size of a table that was taken in.
 #[derive(Clone, Copy, Debug, PartialEq, Eq)]
 pub struct Imported {
-    /// How many records the table has.
+    /// The number of records.
     pub records: usize,
-    /// The most fields of one.
+    /// The most fields of a record.
     pub fields: usize,
 }
 
-/// Takes a table of entries into the sheet: field j of record n is an entry for the cell in column j and row n, and an
-/// empty field leaves its cell as it is. Each record with a field that isn't empty is one edit.
+/// Takes a table of entries into the sheet, and returns its size.
 ///
-/// The source is read to its end, and all fields are checked before anything is assigned. Refused for the first of
-/// these: `Device` where the source failed; `Csv` where it has more than `LONGEST_TABLE` bytes; then, for the first
-/// field or record at fault in reading order, `Csv` for a record past the last row or a field past the last column,
-/// what `read_entry` refuses, and `ClockFull` where the cell's register has the last time. In place of any of them
-/// `Memory` where memory ran out. Nothing is assigned then, but where memory ran out between two edits: then the
-/// records before stand, `applied` of them.
+/// Field j of record n is an entry for the cell in column j and row n, and an empty field leaves its cell as it is.
+/// Each record with a field that isn't empty is one edit. The source is read to its end, and all fields are checked
+/// before anything is assigned.
 ///
-/// What `csv` leaves open: its own reader may fail, even over bytes in memory. That is `Csv` too, with the error as
-/// `reader_error`, which no other fault has.
+/// It is part of the public interface. The program calls [`import_watched`], whose watcher reports hints.
 ///
-/// It is part of the public interface. The program takes tables in by [`import_watched`], whose watcher tells hints.
+/// # Errors
 ///
-/// Cost: b + e, for b bytes of the source and the cost e of an edit for each record with a field that isn't empty;
-/// memory for b bytes and their contents.
+/// Returns the first of these:
+///
+/// - `Device` if the source fails.
+/// - `Csv` if the source has more than `LONGEST_TABLE` bytes.
+/// - The first field or record at fault in reading order: `Csv` for a record past the last row or a field past the last
+///   column, the refusal of `read_entry`, or `ClockFull` if the cell's register has the last time.
+///
+/// The reader of `csv` may fail by itself, even over bytes in memory: `csv` leaves that open. That is `Csv` too, with
+/// the error as `reader_error`, which no other fault has.
+///
+/// In place of any of these it returns `Memory` if allocation fails. Nothing is assigned after a refusal, with one
+/// exception. If allocation fails while the edits' deltas are made, the records before stand, `applied` of them.
+///
+/// Cost: b + e, for b bytes of the source and the cost e of one edit of all cells that are assigned, whose values are
+/// settled once. Also the cost of the cells that the sheet had. Memory for b bytes and twice their contents.
 pub fn import<R: Threads + Sync, S: Source, L: Ledger>(
     rt: &R,
     alloc: Global,
@@ -61,8 +69,10 @@ pub fn import<R: Threads + Sync, S: Source, L: Ledger>(
     import_watched(rt, alloc, source, sheet, meter, &mut UnwatchedTable)
 }
 
-/// Takes a table of entries into the sheet as [`import`] does, while a watcher sees each field that isn't empty as it
-/// is read, up to the first that is refused, and a record past the last row or with a field past the last column.
+/// Takes a table of entries into the sheet as [`import`] does, and shows a watcher what is read.
+///
+/// The watcher sees each field that isn't empty, up to the first that is refused. It also sees a record past the last
+/// row or with a field past the last column.
 ///
 /// Cost: that of [`import`], and the watcher's own.
 pub fn import_watched<R: Threads + Sync, S: Source, L: Ledger, W: TableWatcher>(
@@ -87,7 +97,7 @@ pub fn import_watched<R: Threads + Sync, S: Source, L: Ledger, W: TableWatcher>(
     }
 }
 
-/// What the source's table says, where nothing of it is at fault.
+/// The contents of the source's table, if nothing of it is at fault.
 fn checked<S: Source, W: TableWatcher>(
     alloc: Global,
     source: &mut S,
@@ -110,7 +120,7 @@ fn checked<S: Source, W: TableWatcher>(
         → S.failures source.new ≡ S.failures source.old) }
     ensures sheet { IsSheet sheet.now }
 {
-    // for the fact that the sheet is one (`IsSheet`), which `version` says of it
+    // for the fact that the sheet is one (`IsSheet`), which `version` states
     let _ = sheet.version();
     let bytes = match read_all(alloc, source) {
         Ok(bytes) => bytes,

@@ -15,12 +15,12 @@ use std::alloc::Global;
 use std::marker::Brand;
 use std::sync::ledger::{Blank, Ledger};
 
-/// Whoever has a text for each cell.
+/// A type that has a text for each cell.
 pub(crate) trait CellText {
     /// The text of each cell.
     ghost text_at: { Self → CellTexts };
 
-    /// Puts the text of a cell after what the sink has. Refused only where memory ran out.
+    /// Puts the text of a cell after the sink's bytes. Fails only when out of memory.
     fn put<L: Ledger>(&self, cell: Cell, text: &mut MemorySink<L>) -> Result<(), Refusal>
         ensures put { OnOk result (text.new.bytes.items ≡ text.old.bytes.items ++ text_at self.now cell) }
         ensures memory { IfErr result (λ e. e ≡ Refusal.Memory) };
@@ -42,7 +42,7 @@ pub(crate) fn export_rows<T: CellText, K: Sink>(
     }
 }
 
-/// The table of the texts of a rectangle's cells. Refused only where memory ran out.
+/// The table of the texts of a rectangle's cells. Fails only when out of memory.
 pub(crate) fn rows_text<T: CellText>(
     alloc: Global,
     texts: &T,
@@ -133,10 +133,10 @@ fn finish(writer: Writer<Vec<u8>>) -> Result<Vec<u8>, Refusal>
     }
 }
 
-/// What an error of the writer of a table is refused as: memory ran out.
+/// The refusal for an error of the writer of a table: out of memory.
 ///
 /// No clause of `csv` says so. Its writer raises the errors of what it writes to, and `UnequalLengths`. It writes to a
-/// `Vec`, whose `write` fails as `OutOfMemory` alone (`kind`, of std) and whose `flush` doesn't fail (`ok`); and all
+/// `Vec`, whose `write` fails as `OutOfMemory` alone (`kind`, of std) and whose `flush` doesn't fail (`ok`). All
 /// records of a rectangle have as many fields.
 fn refusal_of(_error: Error) -> Refusal
     ensures { result ≡ Refusal.Memory }

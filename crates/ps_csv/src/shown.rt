@@ -12,10 +12,14 @@ use ps_value::write_shown;
 use std::alloc::Global;
 use std::sync::ledger::Ledger;
 
-/// Writes the shown values of a rectangle: a record for each row, a field for each cell, each record ended by LF.
+/// Writes the shown values of a rectangle as a table.
 ///
-/// `Memory` where memory ran out, and then nothing was written; `Device` where the sink failed, and then a beginning of
-/// the text was written.
+/// Each row is a record, each cell a field, and LF ends each record.
+///
+/// # Errors
+///
+/// - `Memory` if allocation fails; nothing was written then.
+/// - `Device` if the sink fails; a beginning of the text was written then.
 ///
 /// Cost: c + b, for c cells of the rectangle and b bytes of the text, which is built in memory before it is written.
 pub fn export<G: Look, K: Sink>(
@@ -29,9 +33,9 @@ pub fn export<G: Look, K: Sink>(
     export_rows(alloc, &ShownTexts { look }, rect, sink)
 }
 
-/// The text that `export` writes, for a caller that has to have it before it writes anything.
+/// Returns the text that `export` writes, for a caller that needs it before it writes anything.
 ///
-/// Refused only where memory ran out.
+/// Fails only when out of memory.
 ///
 /// Cost: c + b, for c cells of the rectangle and b bytes of the text, and memory for b bytes.
 pub fn exported_text<G: Look>(alloc: Global, look: &G, rect: Rect) -> Result<Vec<u8>, Refusal>
@@ -53,7 +57,7 @@ impl<G: Look> CellText for ShownTexts<'_, G> {
     fn put<L: Ledger>(&self, cell: Cell, text: &mut MemorySink<L>) -> Result<(), Refusal> {
         match write_shown(self.look.at(cell), text) {
             Ok(()) => Ok(()),
-            // (a sink over memory fails only where there is none)
+            // (a sink over memory fails only if there is none)
             Err(Refusal::Device) => Err(Refusal::Memory),
             Err(_) => unreachable!(),
         }

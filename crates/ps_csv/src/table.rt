@@ -16,16 +16,16 @@ use ps_grid::{Cell, ROWS, Refusal};
 use ps_sheet::Sheet;
 use std::alloc::Global;
 
-/// What the records of a table say.
+/// The contents that the records of a table give the cells.
 #[derive(Drop)]
 pub(crate) struct Table {
-    /// The contents of each record, for its cells.
+    /// the contents of each record, for its cells
     pub(crate) batches: Vec<Vec<(Cell, Content)>>,
-    /// The most fields of one.
+    /// the most fields of a record
     pub(crate) fields: usize,
 }
 
-/// What the records of a text say for the cells of the sheet.
+/// The contents that the records of a text give the cells of the sheet.
 pub(crate) fn read_table<W: TableWatcher>(
     alloc: Global,
     sheet: &Sheet,

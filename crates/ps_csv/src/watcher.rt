@@ -1,8 +1,8 @@
-//! Who looks on while a table is read.
+//! Observers of a table that is read.
 
 use ps_grid::{Cell, Refusal};
 
-/// Who looks on while the fields of a table are read. It changes nothing of what is taken in, so its calls promise
+/// An observer of the fields of a table that is read. It changes nothing of what is taken in, so its calls promise
 /// nothing.
 pub trait TableWatcher {
     /// Sees a field that isn't empty, and why its entry is refused, if it is.
@@ -10,13 +10,13 @@ pub trait TableWatcher {
     /// Cost: the watcher's own.
     fn saw_field(&mut self, cell: Cell, field: &[u8], refusal: Option<Refusal>);
 
-    /// Sees that a record, counted from 1, lies past the last row, or has a field past the last column.
+    /// Sees a record, counted from 1, that lies past the last row or has a field past the last column.
     ///
     /// Cost: the watcher's own.
     fn saw_past(&mut self, record: u64);
 }
 
-/// A watcher that looks away.
+/// A watcher that ignores what it sees.
 #[derive(Clone, Copy, Debug)]
 pub struct UnwatchedTable;
 

@@ -78,7 +78,8 @@ module _ (s : State) (es cells : Entries) (e : ℕ × CellState) (u : Under e.0 
   covered_at h c (inl p) =
       subst (λ b. IsNewsOf joined_cell (s b) (state_of (es ++ e ∷ []) b) (state_of cells b)) p
       (subst (λ x. IsNewsOf joined_cell (s e.0) x (state_of cells e.0)) (sym (push_here es e u))
-      (subst (λ x. IsNewsOf joined_cell (s e.0) e.1 x) (sym (state_of-under e.0 cells e.0 (f.under e.0 u) (omega arith)))
+      (subst (λ x. IsNewsOf joined_cell (s e.0) e.1 x)
+      (sym (state_of-under e.0 cells e.0 (f.under e.0 u) (omega arith)))
       (news_none (s e.0) e.1 empty_cell joined_cell-empty_right h)))
   covered_at h c (inr p) =
       subst (λ x. IsNewsOf joined_cell (s c) x (state_of cells c)) (sym (push_there es e c u p)) (f.news c)

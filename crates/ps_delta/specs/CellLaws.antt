@@ -88,7 +88,7 @@ pub joined_cell-choice : (s t : CellState) → (joined_cell s t).choice ≡ join
 unfolding joined_cell
 joined_cell-choice s t = refl
 
--- lists joined place by place have the laws of their items
+-- lists joined position by position have the laws of their items
 module _ {X : Type 0} (f : X → X → X) where
   places-comm : ((x y : X) → f x y ≡ f y x) → (xs ys : List X) → joined_places f xs ys ≡ joined_places f ys xs
   unfolding joined_places

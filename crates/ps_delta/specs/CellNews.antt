@@ -11,7 +11,7 @@ use Rattle.ps_delta.specs.declared.cell_state.CellState.{CellState}
 use Rattle.ps_delta.specs.State.{State, joined_cell, joined_state}
 use Rattle.ps_delta.specs.CellLaws.{by_parts}
 
--- what is new to each of its three parts is what is new to a cell state
+-- what is new to a cell state, by what is new to each of its three parts
 pub news_from_parts : (s d n : CellState)
     → IsNewsOf (joined_registers content_cmp) s.register d.register n.register
     → IsNewsOf joined_tallies s.tally d.tally n.tally
@@ -24,7 +24,7 @@ news_from_parts s d n r t c = record {
       (t.least m.tally (ap (λ (x : CellState). x.tally) h)) (c.least m.choice (ap (λ (x : CellState). x.choice) h));
 }
 
--- and what is new to each cell is what is new to a state
+-- what is new to a state, by what is new to each cell
 pub news_from_cells : (s d n : State) → ((c : ℕ) → IsNewsOf joined_cell (s c) (d c) (n c))
     → IsNewsOf joined_state s d n
 unfolding joined_state

@@ -36,7 +36,7 @@ abbrev pub CoveredChangesNothing : Type 0
 CoveredChangesNothing = (h : List Entries) (d : Entries) → IsBelow (state_of d) (joined_history h)
     → joined_history (h ++ d ∷ []) ≡ joined_history h
 
--- what is new of d to s is below d, nothing that s has is needed for it, and there is no other such
+-- what in d is new to s is below d, needs nothing that s has, and is unique
 pub record IsLeastNews (s d n : State) : Type 0 where
   pub below : IsBelow n d
   pub nothing : HasNothingOf joined_state s n

@@ -1,7 +1,7 @@
--- Lists joined place by place.
+-- Lists joined position by position.
 use Rattle.std.specs.Prelude.{List, [], ◌∷◌}
 
--- past the end of one of them the other one's items stay
+-- the items past the end of the shorter list stay
 unfoldable pub joined_places : {X : Type 0} → (X → X → X) → List X → List X → List X
 joined_places f [] ys = ys
 joined_places f (x ∷ xs) [] = x ∷ xs

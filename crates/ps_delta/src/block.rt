@@ -36,7 +36,7 @@ impl Model for Block {
 }
 
 impl Block {
-    /// A block of which no cell was changed. It takes no memory.
+    /// Creates a block in which no cell was ever changed. It takes no memory.
     pub(crate) fn new(alloc: Global) -> Block
         ensures { result ≡ [] }
     {
@@ -45,14 +45,14 @@ impl Block {
         }
     }
 
-    /// Whether no cell of the block was ever changed.
+    /// Returns whether no cell of the block was ever changed.
     pub(crate) fn is_unmade(&self) -> bool
         ensures { IsTrue result ↔ (self.now ≡ []) }
     {
         self.cells.is_empty()
     }
 
-    /// The state at a place, or the other one where the block doesn't reach that far.
+    /// Returns the state at a position, or `empty` where the block doesn't reach that far.
     pub(crate) fn at<'a>(&'a self, place: usize, empty: &'a CellState) -> &'a CellState
         ensures { result.now ≡ slice_index_or self.now place empty.now }
     {
@@ -63,7 +63,7 @@ impl Block {
         }
     }
 
-    /// Exchanges the state at a place with another one.
+    /// Exchanges the state at a position with another one.
     pub(crate) fn swap(&mut self, place: usize, state: &mut CellState)
         requires { place < length self.old }
         ensures given { self.new ≡ slice_set self.old place state.old }
@@ -72,7 +72,7 @@ impl Block {
         mem::swap(&mut self.cells[place], state);
     }
 
-    /// Adds empty states where the block hasn't all its cells.
+    /// Adds empty states where the block is short of cells.
     #[inline(always)]
     pub(crate) fn fill(&mut self, alloc: Global) -> Result<(), Refusal>
         ensures same { (p : ℕ) → slice_index_or self.new p empty_cell ≡ slice_index_or self.old p empty_cell }
@@ -113,7 +113,7 @@ impl Twin for Block {
     }
 }
 
-/// A block joined with another one: place by place.
+/// Blocks are joined position by position.
 impl Join for Block {
     ghost use Rattle.ps_delta.specs.State.{joined_cells};
     ghost use Rattle.ps_delta.specs.CellLaws.{joined_cells-comm, joined_cells-assoc, joined_cells-idem};

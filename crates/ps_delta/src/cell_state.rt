@@ -1,4 +1,4 @@
-//! What a cell holds: a register, a counter and a set.
+//! The state of a cell: a register, a counter and a set.
 
 ghost use Rattle.std.specs.Prelude.{◌≡◌, ◌↔◌, IsTrue, IfOk, IfErr};
 ghost use Rattle.ps_grid.specs.declared.refusal.Refusal.{Refusal};
@@ -10,7 +10,7 @@ use ps_grid::{Refusal, Twin};
 use ps_lattice::{Choice, Join, Merge, Register, Tally};
 use std::alloc::Global;
 
-/// The state of a cell. All three parts are kept, whichever of them is shown.
+/// The state of a cell. All three parts are stored, whichever of them is shown.
 #[derive(Drop)]
 pub struct CellState {
     /// The content, with the stamp of its assignment.
@@ -22,9 +22,7 @@ pub struct CellState {
 }
 
 impl CellState {
-    /// The state of a cell that no edit named.
-    ///
-    /// Cost: constant; it takes no memory.
+    /// Creates the state of a cell that no edit named. It takes no memory.
     #[tactic(auto, unfolding(crate::specs::State::empty_cell))]
     pub fn empty(alloc: Global) -> CellState
         ensures { result ≡ empty_cell }
@@ -36,9 +34,7 @@ impl CellState {
         }
     }
 
-    /// The state with these three parts.
-    ///
-    /// Cost: constant.
+    /// Creates the state with these three parts.
     pub fn from_parts(register: Register<Content>, tally: Tally, choice: Choice) -> CellState
         ensures register { result.register ≡ register }
         ensures tally { result.tally ≡ tally }
@@ -51,9 +47,7 @@ impl CellState {
         }
     }
 
-    /// The register, the counter and the set.
-    ///
-    /// Cost: constant.
+    /// Returns the register, the counter and the set.
     pub fn parts(&self) -> (&Register<Content>, &Tally, &Choice)
         ensures register { result.0.now ≡ self.now.register }
         ensures tally { result.1.now ≡ self.now.tally }
@@ -62,9 +56,7 @@ impl CellState {
         (&self.register, &self.tally, &self.choice)
     }
 
-    /// Whether the cell has no register, no counts and no pairs.
-    ///
-    /// Cost: constant.
+    /// Returns whether the cell has no register, no counts and no pairs.
     #[tactic(auto, using(crate::specs::CellLaws::empty_from_parts), unfolding(crate::specs::State::empty_cell))]
     pub fn is_empty(&self) -> bool
         ensures { IsTrue result ↔ (self.now ≡ empty_cell) }
@@ -74,11 +66,11 @@ impl CellState {
 }
 
 impl CellState {
-    /// The join of this state and another one.
+    /// Returns the join of this state and another one.
     ///
     /// Refused only when out of memory.
     ///
-    /// Cost: as of `join`.
+    /// Cost: as for `join`.
     #[tactic(auto, unfolding(crate::specs::State::joined_cell))]
     #[inline(always)]
     pub fn joined(&self, alloc: Global, other: &CellState) -> Result<CellState, Refusal>
@@ -92,11 +84,11 @@ impl CellState {
         })
     }
 
-    /// What of the delta's state is new to this state: what is new to its register, to its counter and to its set.
+    /// Returns what in the delta's state is new to this state: what is new to its register, its counter and its set.
     ///
     /// Refused only when out of memory.
     ///
-    /// Cost: for each part of the delta's state a search here.
+    /// Cost: one search in this state for each part of the delta's state.
     pub fn news(&self, alloc: Global, delta: &CellState) -> Result<CellState, Refusal>
         ensures ok { IfOk result (λ s. IsNewsOf joined_cell self.now delta.now s) }
         ensures memory { IfErr result (λ e. e ≡ Refusal.Memory) }

@@ -15,8 +15,9 @@ use ps_lattice::is_ascending;
 use std::alloc::Global;
 use std::marker::Model;
 
-/// One or more cells in order, each with a state that isn't empty. It stands for the state that has these and nothing
-/// else. A contract sees it as the list of the cells with their states, whoever shares them.
+/// One or more cells in order, each with a state that isn't empty. It stands for the state with these cells alone.
+///
+/// A contract sees it as the list of the cells with their states, whoever shares them.
 pub struct Delta {
     cells: DeltaCells,
 }
@@ -37,12 +38,14 @@ impl Model for Delta {
 }
 
 impl Delta {
-    /// The delta of the cells, kept without spare room; none where there are no cells, where they aren't ascending and
-    /// distinct, or where one has an empty state.
+    /// Returns the delta of the cells, without spare room.
+    ///
+    /// Returns `None` where there are no cells, where they aren't ascending and distinct, or where one has an empty
+    /// state.
     ///
     /// Refused only when out of memory, and only where there is such a delta, of several cells.
     ///
-    /// Cost: the number of cells; one allocation, but for one cell.
+    /// Cost: linear in the number of cells; one allocation, or none for one cell.
     pub fn new(alloc: Global, cells: Vec<(Cell, CellState)>) -> Result<Option<Delta>, Refusal>
         ensures made { IfOk result (λ o. SomeIff o (IsDelta cells.items) cells.items) }
         ensures memory { IfErr result (λ e. e ≡ Refusal.Memory) }
@@ -56,9 +59,7 @@ impl Delta {
         }))
     }
 
-    /// The delta of one cell; none where its state is empty.
-    ///
-    /// Cost: constant; it takes no memory.
+    /// Returns the delta of one cell; `None` where its state is empty. It takes no memory.
     #[inline(always)]
     pub fn of_one(cell: Cell, state: CellState) -> Option<Delta>
         ensures { SomeIff result (IsDelta ((cell, state) ∷ [])) ((cell, state) ∷ []) }
@@ -70,28 +71,26 @@ impl Delta {
         }
     }
 
-    /// The delta of one cell, whose state isn't empty.
-    ///
-    /// Cost: constant; it takes no memory.
+    /// Returns the delta of one cell, whose state isn't empty. It takes no memory.
     #[inline(always)]
     pub fn of_filled(cell: Cell, state: CellState) -> Delta
         requires { state ≢ empty_cell }
         ensures made { result ≡ (cell, state) ∷ [] }
         ensures delta { IsDelta result }
     {
-        // for the fact that the cell is in the grid
+        // it tells the prover that the cell is in the grid
         let _ = cell.index();
         Delta {
             cells: DeltaCells::One((cell, state)),
         }
     }
 
-    /// The join of the deltas.
+    /// Returns the join of the deltas.
     ///
     /// Refused only when out of memory.
     ///
-    /// Cost: n log n, for n cells of all deltas together; each one's state is copied once, or joined with what its cell
-    /// has so far.
+    /// Cost: n log n, for n cells of all deltas together. The state of each is copied once, or joined with what its
+    /// cell has so far.
     pub fn joined(alloc: Global, deltas: &[Delta]) -> Result<Delta, Refusal>
         requires { 0 < length deltas.now }
         ensures joined { IfOk result (λ d. state_of d ≡ joined_history deltas.now) }
@@ -104,7 +103,7 @@ impl Delta {
         })
     }
 
-    /// The delta of the cells, as by `new`, where they are in order and none has an empty state.
+    /// Returns the delta of the cells, as `new` does; they are in order and none has an empty state.
     pub(crate) fn of_list(
         alloc: Global,
         cells: Vec<(Cell, CellState)>,
@@ -122,9 +121,7 @@ impl Delta {
         }))
     }
 
-    /// The cells with their states.
-    ///
-    /// Cost: constant.
+    /// Returns the cells with their states.
     pub fn parts(&self) -> &[(Cell, CellState)]
         ensures value { result.now ≡ self.now }
         ensures delta { IsDelta result.now }
@@ -134,9 +131,7 @@ impl Delta {
     }
 }
 
-/// One more owner of the same delta. No memory is taken.
-///
-/// Cost: constant.
+/// A twin is one more owner of the same delta, and takes no memory.
 impl Twin for Delta {
     #[inline(always)]
     fn twin(&self, alloc: Global) -> Result<Delta, Refusal> {
@@ -146,7 +141,7 @@ impl Twin for Delta {
     }
 }
 
-/// The cells are let go with it. That is a function, so that who drops a delta needn't know what it may hold.
+/// Frees the cells with the delta. It is a function so that callers needn't know what a delta may hold.
 impl Drop for Delta {
     fn drop(self) {
         let Delta { cells: _ } = self;
@@ -162,7 +157,7 @@ fn are_entries(cells: &[(Cell, CellState)]) -> bool
         return false;
     }
     for entry in cells {
-        // for the fact that the cell is in the grid
+        // it tells the prover that the cell is in the grid
         let _ = entry.0.index();
         if entry.1.is_empty() {
             return false;

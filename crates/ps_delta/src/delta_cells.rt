@@ -1,4 +1,4 @@
-//! Cells with their states, as a delta keeps them.
+//! Cells with their states, as a delta stores them.
 
 ghost use Rattle.std.specs.Prelude.{◌≡◌, ◌<◌, IfOk, IfErr, OnErr, length};
 ghost use Rattle.ps_grid.specs.declared.refusal.Refusal.{Refusal};
@@ -10,8 +10,9 @@ use std::alloc::Global;
 use std::slice;
 use std::sync::Arc;
 
-/// Cells with their states, that aren't changed any more. One alone takes no memory beside this value: most deltas are
-/// of one cell. Several have any number of owners.
+/// Cells with their states, which aren't changed any more.
+///
+/// One alone takes no memory beside this value: most deltas are of one cell. Several have any number of owners.
 #[derive(Drop)]
 pub(crate) enum DeltaCells {
     One((Cell, CellState)),
@@ -19,7 +20,7 @@ pub(crate) enum DeltaCells {
 }
 
 impl DeltaCells {
-    /// The cells of the list, of which there is one at least, without spare room.
+    /// Stores the cells of the list without spare room. There is at least one.
     pub(crate) fn new(
         alloc: Global,
         mut cells: Vec<(Cell, CellState)>,
@@ -36,7 +37,7 @@ impl DeltaCells {
         Ok(DeltaCells::Several(Arc::new(alloc, cells)?))
     }
 
-    /// The cells with their states.
+    /// Returns the cells with their states.
     pub(crate) fn as_slice(&self) -> &[(Cell, CellState)]
         ensures { result.now ≡ kept_entries self.now }
     {
@@ -46,7 +47,7 @@ impl DeltaCells {
         }
     }
 
-    /// The same cells, with one owner more. No memory is taken: what a state has beside it is shared.
+    /// Returns the same cells with one owner more. It takes no memory: what a state has beside it is shared.
     #[inline(always)]
     pub(crate) fn share(&self, alloc: Global) -> Result<DeltaCells, Refusal>
         ensures equal { IfOk result (λ d. kept_entries d ≡ kept_entries self.now) }

@@ -1,4 +1,4 @@
-//! What people ask of a sheet.
+//! Edits and changes: what people ask of a sheet.
 
 ghost use Rattle.std.specs.Prelude.{◌≡◌};
 ghost use Rattle.std.specs.Option.{SomeIff};
@@ -26,14 +26,14 @@ pub enum Edit {
     Unchoose(Cell, u64),
 }
 
-/// What changes a sheet.
+/// A change of a sheet: an edit, or a delta from elsewhere.
 #[derive(Drop)]
 pub enum Change {
-    /// What people ask of it.
+    /// An edit that people ask for.
     Edit(Edit),
     /// A delta made elsewhere.
     Delta(Delta),
-    /// A delta made elsewhere, of which only the news is taken.
+    /// A delta made elsewhere; only what is new in it is taken.
     Merge(Delta),
 }
 
@@ -63,9 +63,9 @@ impl Model for Batch {
 impl Batch {
     ghost use Rattle.ps_delta.specs.Batches.{IsBatch};
 
-    /// The batch of these cells; none where there is no cell, or where they aren't ascending and distinct.
+    /// Returns the batch of these cells; `None` where there is no cell, or where they aren't ascending and distinct.
     ///
-    /// Cost: the number of cells.
+    /// Cost: linear in the number of cells.
     pub fn new(cells: Vec<(Cell, Content)>) -> Option<Batch>
         ensures { SomeIff result (IsBatch cells.items) cells.items }
     {
@@ -75,9 +75,7 @@ impl Batch {
         Some(Batch { cells })
     }
 
-    /// The cells with their contents.
-    ///
-    /// Cost: constant.
+    /// Returns the cells with their contents.
     pub fn into_cells(self) -> Vec<(Cell, Content)>
         ensures cells { result.items ≡ self }
         ensures batch { IsBatch self }

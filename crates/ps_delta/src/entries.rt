@@ -20,7 +20,7 @@ impl Grid {
     ///
     /// Refused only when out of memory.
     ///
-    /// Cost: the blocks of the grid, and the 64 cells of each block of which a cell was ever changed.
+    /// Cost: the blocks of the grid, and 64 cells for each block in which a cell was ever changed.
     pub fn entries(&self, alloc: Global) -> Result<Vec<(Cell, CellState)>, Refusal>
         ensures entries { IfOk result (λ entries. AreEntries entries.items) }
         ensures same { IfOk result (λ entries. state_of entries.items ≡ state_at self.now) }

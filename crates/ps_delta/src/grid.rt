@@ -23,15 +23,15 @@ use ps_lattice::Join;
 use std::alloc::Global;
 use std::marker::Model;
 
-/// How many blocks the grid has.
+/// The number of blocks of the grid.
 const BLOCKS: usize = CELLS / BLOCK;
 
-/// What each cell of the grid holds. A contract sees it as the list of its blocks, and speaks of it by `state_at`.
+/// The state of each cell of the grid. A contract sees it as the list of its blocks, and speaks of it by `state_at`.
 #[derive(Drop)]
 pub struct Grid {
     // The cells by their index, 64 a block; a block has no state until one of its cells is written.
     blocks: Vec<Block>,
-    // What is lent for a cell of which no block has a state.
+    // the state returned for each cell of a block without states
     empty: CellState,
 }
 
@@ -52,7 +52,7 @@ impl Model for Grid {
 }
 
 impl Grid {
-    /// The grid where no cell holds anything.
+    /// Creates a grid where no cell holds anything.
     ///
     /// Refused only when out of memory.
     ///
@@ -69,9 +69,7 @@ impl Grid {
         Ok(Grid { blocks, empty })
     }
 
-    /// What the cell holds.
-    ///
-    /// Cost: constant.
+    /// Returns the state of the cell.
     pub fn at(&self, cell: Cell) -> &CellState
         ensures value { result.now ≡ state_at self.now cell }
         ensures in_grid { IsInGrid (state_at self.now) }
@@ -90,8 +88,8 @@ impl Grid {
 
     /// Joins the delta into the grid.
     ///
-    /// It is for whoever keeps a grid alone. A sheet uses its two halves, `changes_by` and `exchange`, since it takes a
-    /// change back if it is given up.
+    /// It is for a caller who keeps a grid alone. A sheet uses its two halves, `changes_by` and `exchange`, since it
+    /// takes a change back if it is given up.
     ///
     /// Refused only when out of memory, and then each cell holds what it held.
     ///
@@ -107,10 +105,10 @@ impl Grid {
         Ok(())
     }
 
-    /// Whether the delta is below the grid: joining it changes nothing.
+    /// Returns whether the delta is covered: joining it changes nothing.
     ///
-    /// Cost: for each cell of the delta its counts and pairs, each with a search among those that the cell has here; it
-    /// takes no memory.
+    /// Cost: for each cell of the delta its counts and pairs, each with a search among those that the cell has here; no
+    /// memory.
     pub fn covers(&self, delta: &Delta) -> bool
         ensures { IsTrue result ↔ IsBelow (state_of delta.now) (state_at self.now) }
     {
@@ -123,13 +121,13 @@ impl Grid {
         true
     }
 
-    /// Finds the cells that a join of the delta would change: those whose register, counter or set is not what it was,
-    /// shown or not.
+    /// Finds the cells that a join of the delta would change: their register, counter or set, shown or not.
     ///
-    /// It is part of the public interface, for whoever asks before a join. A sheet has these cells from `changes_by`.
+    /// It is part of the public interface, for a caller who asks before a join. A sheet has these cells from
+    /// `changes_by`.
     ///
-    /// Cost: for each cell of the delta its counts and pairs, each with a search among those that the cell has here; it
-    /// takes no memory.
+    /// Cost: for each cell of the delta its counts and pairs, each with a search among those that the cell has here; no
+    /// memory.
     pub fn touched(&self, delta: &Delta, touched: &mut Touched)
         ensures { AreTouched (state_at self.now) (joined_state (state_at self.now) (state_of delta.now)) touched.new }
     {
@@ -142,13 +140,14 @@ impl Grid {
         }
     }
 
-    /// What of the delta is new to the grid: the least delta whose join with the grid is that of this one; none where
-    /// this one is below the grid.
+    /// Returns what in the delta is new to the grid: the least delta whose join with the grid is that of `delta`.
     ///
-    /// Refused only when out of memory.
+    /// Returns `None` where the grid covers the delta.
+    ///
+    /// Refused only when out of memory, and only where something is new.
     ///
     /// Cost: for each cell of the delta its counts and pairs, each with a search among those that the cell has here. It
-    /// takes no memory where the delta is below the grid.
+    /// takes no memory where the grid covers the delta.
     pub fn news(&self, alloc: Global, delta: &Delta) -> Result<Option<Delta>, Refusal>
         ensures news { IfOk result (λ o. IfSome o (λ d.
             IsNewsOf joined_state (state_at self.now) (state_of delta.now) (state_of d))) }
@@ -165,7 +164,7 @@ impl Grid {
         Delta::of_list(alloc, cells)
     }
 
-    /// What of one entry is new to its cell.
+    /// What in one entry is new to its cell.
     #[inline(always)]
     fn news_of_one(&self, alloc: Global, part: &(Cell, CellState)) -> Result<Option<Delta>, Refusal>
         ensures news { IfOk result (λ o. IfSome o (λ d.
@@ -183,7 +182,7 @@ impl Grid {
         Ok(Some(Delta::of_filled(part.0, new)))
     }
 
-    /// What of each entry is new to its cell, where something is.
+    /// The entries with what in them is new to their cells; those without news are left out.
     fn news_of(
         &self,
         alloc: Global,
@@ -207,15 +206,15 @@ impl Grid {
         Ok(cells)
     }
 
-    /// Lists the cells that a join of the delta would change, ascending, each with the state that it would have. They
-    /// take the place of what the list has. The grid has room for them afterwards, so that `exchange` takes no memory.
+    /// Lists the cells that a join of the delta would change, ascending, each with the state that it would have.
     ///
-    /// A list that is lent again and again asks for memory only where a delta has more cells than all before.
+    /// They replace what the list has. Afterwards the grid has room for them, so `exchange` takes no memory. A list
+    /// that is used again and again allocates only where a delta has more cells than all before.
     ///
     /// Refused only when out of memory, and then the list may have some of the cells.
     ///
-    /// Cost: for each cell of the delta, the counts and pairs that it has here and there; and 64 states for each block
-    /// that is made.
+    /// Cost: for each cell of the delta, the counts and pairs that it has here and there; and 64 states for each new
+    /// block.
     #[inline(always)]
     pub fn changes_by(
         &mut self,
@@ -244,7 +243,7 @@ impl Grid {
 
     /// Exchanges the state of each cell of the list with that of the list.
     ///
-    /// Cost: the number of cells; it takes no memory.
+    /// Cost: linear in the number of cells; no memory.
     pub fn exchange(&mut self, cells: &mut [(Cell, CellState)])
         requires ready { HasRoomFor self.old cells.old }
         requires once { IsStrictlyIncreasing (cells_of cells.old) }
@@ -258,7 +257,7 @@ impl Grid {
         }
     }
 
-    /// Exchanges what the cell holds with the given state.
+    /// Exchanges the state of the cell with the given one.
     fn swap(&mut self, cell: Cell, state: &mut CellState)
         requires { HasPlace self.old cell }
         ensures given { state_at self.new ≡ with_cell (state_at self.old) cell state.old }
@@ -269,7 +268,7 @@ impl Grid {
         self.blocks[index / BLOCK].swap(index % BLOCK, state);
     }
 
-    /// Makes the block of the cell, where it isn't there.
+    /// Makes the block of the cell, if it isn't there.
     fn make_place(&mut self, alloc: Global, cell: Cell) -> Result<(), Refusal>
         ensures same { state_at self.new ≡ state_at self.old }
         ensures places { (c : ℕ) → HasPlace self.old c → HasPlace self.new c }
@@ -280,11 +279,12 @@ impl Grid {
     }
 }
 
-/// A grid joined with another one: what two replicas hold, cell by cell. A block that was made counts as different from
-/// one that wasn't, whatever the cells hold. The blocks are all made before they take their places, so a join that is
-/// refused changes nothing.
+/// Grids are joined cell by cell.
 ///
-/// It is part of the public interface: a sheet joins deltas alone.
+/// A block that was made counts as different from one that wasn't, whatever the cells hold. All new blocks are made
+/// before any of them replaces an old one, so a refused join changes nothing.
+///
+/// It is part of the public interface: a sheet joins only deltas.
 impl Join for Grid {
     ghost use Rattle.ps_delta.specs.State.{joined_blocks};
     ghost use Rattle.ps_delta.specs.CellLaws.{joined_blocks-comm, joined_blocks-assoc, joined_blocks-idem};

@@ -1,4 +1,4 @@
-//! Entries of several deltas, joined.
+//! The join of the entries of several deltas.
 
 ghost use Rattle.std.specs.Prelude.{◌≡◌, ◌-◌, ◌^◌, ◌++◌, ◌≤◌, ◌<◌, [], ◌∷◌, IfOk, IfErr, OnOk, length, map};
 ghost use Rattle.std.specs.Prelude.{min, sum_by};
@@ -15,7 +15,7 @@ use ps_grid::{Cell, Refusal, Twin};
 use ps_lattice::Join;
 use std::alloc::Global;
 
-/// The entries of the deltas in the order of their cells.
+/// Returns the entries of the deltas in the order of their cells.
 pub(crate) fn in_order<'a>(
     alloc: Global,
     deltas: &'a [Delta],
@@ -28,7 +28,7 @@ pub(crate) fn in_order<'a>(
     ensures memory { IfErr result (λ e. e ≡ Refusal.Memory) }
 {
     let mut entries = gathered(alloc, deltas)?;
-    // those of each delta are in order already, and such runs are merged
+    // the entries of each delta are in order already, and the sort merges such runs
     entries.sort_by_key(|entry| entry.0)?;
     Ok(entries)
 }
@@ -48,7 +48,7 @@ fn gathered<'a>(alloc: Global, deltas: &'a [Delta]) -> Result<Vec<&'a (Cell, Cel
     Ok(entries)
 }
 
-/// How many cells the deltas have together, as far as a number goes.
+/// How many cells the deltas have together, or 2^64 - 1 where there are more.
 fn cell_count(deltas: &[Delta]) -> usize
     ensures { result ≡ min (sum_by length deltas.now) (2 ^ 64 - 1) }
 {
@@ -59,7 +59,7 @@ fn cell_count(deltas: &[Delta]) -> usize
     count
 }
 
-/// Adds the cells at the end of the list.
+/// Appends the cells to the list.
 fn append<'a>(
     entries: &mut Vec<&'a (Cell, CellState)>,
     cells: &'a [(Cell, CellState)],
@@ -74,7 +74,7 @@ fn append<'a>(
     Ok(())
 }
 
-/// The join of entries that are in the order of their cells.
+/// Returns the join of entries that are in the order of their cells.
 pub(crate) fn joined_in_order(
     alloc: Global,
     entries: &[&(Cell, CellState)],
@@ -93,7 +93,7 @@ pub(crate) fn joined_in_order(
     Ok(cells)
 }
 
-/// Joins in an entry whose cell is the last one of these, or comes after it.
+/// Joins an entry into the list; its cell is the last one there, or comes after it.
 fn add(
     alloc: Global,
     cells: &mut Vec<(Cell, CellState)>,

@@ -1,6 +1,7 @@
-//! Laws of joins, of states and of histories: what holds whatever the deltas are.
+//! Laws of joins, of states and of histories, whatever the deltas are. Each function does nothing: its contract is the
+//! law.
 //!
-//! They are part of the public interface. The program calls `grids_are_shared` alone.
+//! They are part of the public interface. The program calls only `grids_are_shared`.
 
 ghost use Rattle.std.specs.Thread.{IsSync};
 ghost use Rattle.ps_delta.specs.Laws.{CoveredChangesNothing, GroupsJoin, HistoryIsASet, NewsIsLeast, StatesJoin};
@@ -10,49 +11,39 @@ use crate::block::Block;
 use crate::cell_state::CellState;
 use crate::grid::Grid;
 
-/// States are joined in any order, in any groups and again with the same result, and the empty state adds nothing.
+/// States that states join in any order, in any groups and again with the same result.
 ///
-/// Cost: none.
+/// The empty state adds nothing.
 pub fn states_join()
     ensures { StatesJoin }
 {}
 
-/// Two lists with the same deltas, in any order and each any number of times, have the same joined history.
-///
-/// Cost: none.
+/// States that two lists with the same deltas have the same joined history, in any order and with any repeats.
 pub fn history_is_a_set()
     ensures { HistoryIsASet }
 {}
 
-/// Deltas in groups have the same joined history as the joins of the groups.
-///
-/// Cost: none.
+/// States that deltas in groups have the same joined history as the joins of the groups.
 pub fn groups_join()
     ensures { GroupsJoin }
 {}
 
-/// A delta below the joined history changes nothing.
-///
-/// Cost: none.
+/// States that a delta below the joined history changes nothing.
 pub fn covered_changes_nothing()
     ensures { CoveredChangesNothing }
 {}
 
-/// What is new of a delta is below the delta, nothing that the state has is needed for it, and there is no other.
-///
-/// Cost: none.
+/// States what is new in a delta: it is below the delta, needs nothing that the state has, and is unique.
 pub fn news_is_least()
     ensures { NewsIsLeast }
 {}
 
-/// A type whose values several threads may look at together.
+/// States that several threads may read the values of a type together.
 fn shares<T: Sync>()
     ensures { IsSync T.row }
 {}
 
-/// Several threads may look at one grid together.
-///
-/// Cost: none.
+/// States that several threads may read one grid together.
 pub fn grids_are_shared()
     ensures { IsSync grid.the_row }
 {

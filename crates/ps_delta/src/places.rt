@@ -1,4 +1,4 @@
-//! Lists joined place by place.
+//! Lists joined position by position.
 
 ghost use Rattle.std.specs.Prelude.{◌≡◌, ◌↔◌, IsTrue, IfOk, IfErr};
 ghost use Rattle.ps_grid.specs.declared.refusal.Refusal.{Refusal};
@@ -8,7 +8,7 @@ use ps_grid::Refusal;
 use ps_lattice::{Join, Merge};
 use std::alloc::Global;
 
-/// Both lists joined place by place; past the end of one of them the items of the other one stay.
+/// Returns both lists joined position by position; the items past the end of the shorter one stay.
 pub(crate) fn joined<X: Merge>(alloc: Global, mine: &[X], theirs: &[X]) -> Result<Vec<X>, Refusal>
     ensures ok { IfOk result (λ v. v.items ≡ joined_places X.joined mine.now theirs.now) }
     ensures memory { IfErr result (λ e. e ≡ Refusal.Memory) }
@@ -28,7 +28,7 @@ pub(crate) fn joined<X: Merge>(alloc: Global, mine: &[X], theirs: &[X]) -> Resul
     Ok(all)
 }
 
-/// Whether joining the first list into the second one changes nothing.
+/// Returns whether joining the first list into the second one changes nothing.
 pub(crate) fn are_below<X: Join>(mine: &[X], theirs: &[X]) -> bool
     ensures { IsTrue result ↔ (joined_places X.joined theirs.now mine.now ≡ theirs.now) }
 {

@@ -9,10 +9,10 @@ use ps_grid::{CELLS, Cell, Refusal};
 use std::alloc::Global;
 use std::marker::Model;
 
-/// The cells that a join would change, ascending. It has room for each cell of the grid, so `Grid::touched` takes no
-/// memory. A contract sees it as the list of the cells.
+/// The cells that a join would change, ascending. A contract sees it as the list of the cells.
 ///
-/// It is part of the public interface, with `Grid::touched`: the sheet itself learns these cells as it joins.
+/// It has room for each cell of the grid, so `Grid::touched` takes no memory. It is part of the public interface, with
+/// `Grid::touched`: the sheet itself learns these cells as it joins.
 #[derive(Drop)]
 pub struct Touched {
     cells: Vec<Cell>,
@@ -31,11 +31,11 @@ impl Model for Touched {
 }
 
 impl Touched {
-    /// An empty list, with room for the whole grid.
+    /// Creates an empty list, with room for the whole grid.
     ///
     /// Refused only when out of memory.
     ///
-    /// Cost: the cells of the grid, four bytes each.
+    /// Cost: four bytes for each cell of the grid.
     pub fn new(alloc: Global) -> Result<Touched, Refusal>
         ensures empty { IfOk result (λ t. t ≡ []) }
         ensures memory { IfErr result (λ e. e ≡ Refusal.Memory) }
@@ -44,9 +44,7 @@ impl Touched {
         Ok(Touched { cells })
     }
 
-    /// The cells, ascending.
-    ///
-    /// Cost: constant.
+    /// Returns the cells, ascending.
     pub fn cells(&self) -> &[Cell]
         ensures value { result.now ≡ self.now }
         ensures in_grid { All (λ c. c < CELLS) result.now }
@@ -54,7 +52,7 @@ impl Touched {
         &self.cells
     }
 
-    /// Leaves no cell.
+    /// Removes all cells.
     pub(crate) fn clear(&mut self)
         ensures { self.new ≡ [] }
     {

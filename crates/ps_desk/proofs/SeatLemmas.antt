@@ -11,7 +11,7 @@ use Rattle.ps_lines.specs.Commands.{Read, ReadsLine}
 use Rattle.ps_lines.specs.Replies.{refusal_text, replica_text}
 use Rattle.ps_lines.specs.declared.command.Command.{Command}
 use Rattle.ps_lines.specs.declared.command.Command.TheVariants.{Edit, Entries as AllEntries, Entry, Get, Merge}
-use Rattle.ps_lines.specs.declared.command.Command.TheVariants.{Pull, Push, Replica, Rows}
+use Rattle.ps_lines.specs.declared.command.Command.TheVariants.{Pull, Push, Replica, Rows, Wait}
 use Rattle.ps_session.proofs.AnswerLemmas.{memory_or_other}
 use Rattle.ps_lines.proofs.PulledDeltas.{hands_out}
 use Rattle.ps_desk.specs.Passes.{PassView}
@@ -126,6 +126,8 @@ module _ (r : ℕ) (h : List Entries) where
   answer_of old new line text (Ok (Replica named)) reads did =
       answer_of_command old new line text (Replica named) reads
       (inl (did.1.1, did.2 ∙ ap replica_text did.1.0)) (subst (GoesOn old) (sym did.1.1) (goes_itself old))
+  answer_of old new line text (Ok (Wait seen)) reads did =
+      answer_of_command old new line text (Wait seen) reads (inl (did.0, did.1.0, did.2)) did.1.1
   answer_of old new line text (Err refusal) reads did =
       subst (λ (p : PassView). SeatAnswers r h old line text p) (sym did.0)
       (subst (λ (t : List ℕ). SeatAnswers r h old line t old) (sym did.1) (answer_of_refusal old line refusal reads))

@@ -1,4 +1,4 @@
--- What a desk is opened from, and the passes that it gives.
+-- The parts from which a desk is opened, and the passes that it returns.
 use Rattle.std.specs.Prelude.{◌≡◌, ℕ, zero, suc, List, [], ◌∷◌, ◌++◌}
 use Rattle.logbook.specs.Pages.{Book}
 use Rattle.ps_delta.specs.Deltas.{Entries}

@@ -18,7 +18,7 @@ no_change = record {
   report = record { version = 0; evaluated = 0; cyclic = 0; levels = 0 };
 }
 
--- what is staged in a sheet; where nothing is, a change of nothing
+-- the change that is staged in a sheet, or a change of nothing
 abbrev pub staged_in : StagingView → StagedView
 staged_in x = unwrap_or x.staged no_change
 
@@ -30,12 +30,12 @@ change_in x = prepared_of x (staged_in x)
 abbrev pub shown_of : Assignment → ℕ → ℕ × Value
 shown_of v c = (c, v c)
 
--- the cells that the change makes show another value, as they were found: one alone, or those that are listed
+-- the cells that show another value after the change, as they were found: one alone, or those that are listed
 abbrev pub found_in : StagingView → Option ℕ → List ℕ
 found_in x (Some c) = c ∷ []
 found_in x None = (staged_in x).changed
 
--- the patch of the change that is staged, which makes these cells show what they show then, made by the call of a seat
+-- the patch of the staged change: these cells with what they show afterwards, by a call of this seat
 abbrev pub note_of : StagingView → List ℕ → ℕ → Note
 note_of x cells seat = record {
   number = (staged_in x).report.version;
@@ -44,7 +44,7 @@ note_of x cells seat = record {
   owner = seat;
 }
 
--- in y the same change is staged as in x, over the same history
+-- the same change is staged in y as in x, over the same history
 pub record KeepsChange (x y : StagingView) : Type 0 where
   pub staged : is_some y.staged ≡ true
   pub replica : y.replica ≡ x.replica
@@ -53,7 +53,7 @@ pub record KeepsChange (x y : StagingView) : Type 0 where
   pub fresh : (staged_in y).fresh ≡ (staged_in x).fresh
   pub report : (staged_in y).report ≡ (staged_in x).report
 
--- NOTED: the list `now` is `seen` with one patch more, which is of the change and of the call of a seat
+-- NOTED: the list `now` is `seen` with one more patch, which is of this change and by a call of this seat
 pub record IsNoted (p : PreparedView) (seat : ℕ) (seen now : List Note) : Type 0 where
   pub patch : Note
   pub last : now ≡ seen ++ patch ∷ []

@@ -1,4 +1,4 @@
--- What a receipt tells of the published list.
+-- What a receipt says about the published list.
 use Rattle.std.specs.Prelude.{◌≡◌, ℕ, ◌+◌, Bool, true, false, List, [], ◌∷◌, ◌++◌, length, MatchBool}
 use mathlib.Core.List.{IsPrefix}
 use Rattle.ps_delta.specs.State.{State, IsBelow}
@@ -40,7 +40,7 @@ IsReceipt Made h seen now seat r = MatchBool r.fresh (IsAppended Made h seen now
 abbrev pub with_delta : Standing → Entries → Receipt
 with_delta s d = record { number = s.number; delta = d; fresh = s.fresh }
 
--- what a merge came to: the number of what was appended, or the length of the history where nothing was
+-- the result of a merge: the number of what was appended, or the length of the history if nothing was
 abbrev pub merged_of : ℕ → Bool → Merged
 merged_of number true = New number
 merged_of number false = Known number

@@ -1,5 +1,5 @@
--- What a session at a desk answers a line. It is told by the replica r and the opening history h, which the name of the
--- desk has, and by what contracts see of the session's pass before and after the line.
+-- How a session at a desk answers a line. The answer depends on the replica r and the opening history h, which the
+-- desk's name has, and on the session's pass before and after the line, as contracts see it.
 use Rattle.std.specs.Prelude.{◌≡◌, ◌≢◌, ◌⊎◌, ℕ, ◌+◌, ◌<◌, ◌≤◌, ⊤, List, Ok, Err, IsOk, if◌then◌else◌, unwrap_or}
 use Rattle.std.specs.Prelude.{drop, length, take}
 use mathlib.Core.List.{IsPrefix}
@@ -21,16 +21,16 @@ use Rattle.ps_session.specs.declared.board.Merged.{Merged}
 use Rattle.ps_lines.specs.Commands.{Read, ReadsLine}
 use Rattle.ps_lines.specs.PullReplies.{HandsOut}
 use Rattle.ps_lines.specs.Replies.{done_text, entries_reply, entry_reply, refusal_text, replica_text, rows_text}
-use Rattle.ps_lines.specs.Replies.{value_text}
+use Rattle.ps_lines.specs.Replies.{value_text, version_text}
 use Rattle.ps_lines.specs.Streams.{Answering, Lines}
 use Rattle.ps_lines.specs.declared.command.Command.{Command}
 use Rattle.ps_lines.specs.declared.command.Command.TheVariants.{Edit, Entries as AllEntries, Entry, Get, Merge}
-use Rattle.ps_lines.specs.declared.command.Command.TheVariants.{Pull, Push, Replica, Rows}
+use Rattle.ps_lines.specs.declared.command.Command.TheVariants.{Pull, Push, Replica, Rows, Wait}
 use Rattle.ps_desk.specs.Passes.{PassView}
 use Rattle.ps_desk.specs.Receipts.{IsAppended, IsReceipt, merged_of}
 use Rattle.ps_desk.specs.declared.receipt.Receipt.{Receipt}
 
--- an edit was made: a patch of this seat, with the edit's delta over all that came before it, ends the list, and the
+-- an edit was made: the list ends with a patch of this seat, which has the edit's delta over all before it, and the
 -- reply has its number
 pub record IsEdited (r : ℕ) (h : List Entries) (edit : SheetEdit) (old : PassView) (text : List ℕ) (new : PassView) :
     Type 0 where
@@ -51,8 +51,8 @@ pub record IsRefused (r : ℕ) (h : List Entries) (edit : SheetEdit) (old : Pass
   pub counted : new.appended ≡ old.appended
   pub entered : new.enters ≡ old.enters
 
--- the published copies were entered once: the list is legal, and the reply is told of the settled values of the history
--- that it stands for
+-- the published copies were entered once: the list is legal, and the reply follows from the settled values of the
+-- history that it stands for
 pub record IsLook (h : List Entries) (reply : Assignment → List ℕ) (old : PassView) (text : List ℕ) (new : PassView) :
     Type 0 where
   pub legal : IsLegal h new.list
@@ -68,7 +68,7 @@ pub record IsGone (old : PassView) (text : List ℕ) (new : PassView) : Type 0 w
   pub same : new.list ≡ old.list
   pub counted : new.appended ≡ old.appended
 
--- the cells were asked for what they hold, by the history of all that is published
+-- the reply follows from what the cells hold after the history of all that is published
 pub record IsHeld (h : List Entries) (reply : Holdings → List ℕ) (old : PassView) (text : List ℕ) (new : PassView) :
     Type 0 where
   pub legal : IsLegal h new.list
@@ -76,7 +76,7 @@ pub record IsHeld (h : List Entries) (reply : Holdings → List ℕ) (old : Pass
   pub counted : new.appended ≡ old.appended
   pub entered : new.enters ≡ old.enters
 
--- deltas were handed out, of all that is published
+-- the reply has deltas of all that is published
 pub record IsHandedOut (h : List Entries) (from most : ℕ) (old : PassView) (text : List ℕ) (new : PassView) : Type 0
   where
     pub legal : IsLegal h new.list
@@ -84,7 +84,7 @@ pub record IsHandedOut (h : List Entries) (from most : ℕ) (old : PassView) (te
     pub counted : new.appended ≡ old.appended
     pub entered : new.enters ≡ old.enters
 
--- a delta was taken in: it was appended, or is included, and the reply has the receipt's number
+-- a delta was accepted: it was appended, or is included, and the reply has the receipt's number
 pub record IsTakenIn (h : List Entries) (delta : Entries) (old : PassView) (text : List ℕ) (new : PassView) : Type 0
   where
     pub legal : IsLegal h new.list
@@ -94,8 +94,8 @@ pub record IsTakenIn (h : List Entries) (delta : Entries) (old : PassView) (text
     pub counted : new.appended ≡ old.appended + (if receipt.fresh then 1 else 0)
     pub entered : new.enters ≡ old.enters
 
--- a delta was merged: its news was appended, or it has none and is included, and the reply says which of the two, and
--- has the receipt's number
+-- a delta was merged: what is new in it was appended, or nothing is and it is included. The reply says which of the
+-- two, and has the receipt's number
 pub record IsMergedIn (h : List Entries) (delta : Entries) (old : PassView) (text : List ℕ) (new : PassView) : Type 0
   where
     pub legal : IsLegal h new.list
@@ -104,6 +104,13 @@ pub record IsMergedIn (h : List Entries) (delta : Entries) (old : PassView) (tex
     pub told : text ≡ merged_text (merged_of receipt.number receipt.fresh)
     pub counted : new.appended ≡ old.appended + (if receipt.fresh then 1 else 0)
     pub entered : new.enters ≡ old.enters
+
+-- the changes were counted: the history of all that is published has this number of them
+pub record IsCounted (h : List Entries) (number : ℕ) (old new : PassView) : Type 0 where
+  pub legal : IsLegal h new.list
+  pub all : number ≡ length (history_of h new.list)
+  pub counted : new.appended ≡ old.appended
+  pub entered : new.enters ≡ old.enters
 
 -- what a session does where a line asks for this: the reply, and its pass afterwards
 abbrev pub SeatObeys : ℕ → List Entries → Read Command → PassView → List ℕ → PassView → Type 0
@@ -119,9 +126,11 @@ SeatObeys r h (Ok (Pull from most)) old text new = IsHandedOut h from (unwrap_or
 SeatObeys r h (Ok (Push delta)) old text new = IsTakenIn h delta old text new
 SeatObeys r h (Ok (Merge delta)) old text new = IsMergedIn h delta old text new
 SeatObeys r h (Ok (Replica named)) old text new = (new ≡ old) × (text ≡ replica_text r)
+SeatObeys r h (Ok (Wait seen)) old text new =
+    (number : ℕ) × IsCounted h number old new × (text ≡ version_text number)
 SeatObeys r h (Err refusal) old text new = (new ≡ old) × (text ≡ refusal_text refusal)
 
--- out of memory, where what was asked for takes some; nothing was appended
+-- out of memory, where the request takes memory; nothing was appended
 pub record IsLacking (takes : Type 0) (old : PassView) (text : List ℕ) (new : PassView) : Type 0 where
   pub some : takes
   pub told : text ≡ refusal_text refusals.Memory
@@ -196,7 +205,11 @@ abbrev pub SeatPulls : List Entries → PassView → ℕ → ℕ → Read (List 
 SeatPulls h old from most (Ok deltas) new = IsPulled h from most deltas old new × GoesOn old new
 SeatPulls h old from most (Err refusal) new = IsUnpulled h from refusal old new × GoesOn old new
 
--- the replica of the desk is told, and nothing is waited for or looked at
+-- after any wait, the changes are counted
+abbrev pub SeatWaits : List Entries → PassView → ℕ → ℕ → PassView → Type 0
+SeatWaits h old seen number new = IsCounted h number old new × GoesOn old new
+
+-- the answer is the desk's replica, without a wait or a look
 abbrev pub SeatReplica : ℕ → PassView → ℕ → PassView → Type 0
 SeatReplica r old number new = (number ≡ r) × (new ≡ old)
 
@@ -210,6 +223,7 @@ SeatCalls r h = record {
   holds = SeatHolds h;
   lists = SeatLists h;
   pulls = SeatPulls h;
+  waits = SeatWaits h;
   replica = SeatReplica r;
 }
 
@@ -221,8 +235,8 @@ pub record SeatServes (r : ℕ) (h : List Entries) (old : PassView) (line text :
   pub obeys : SeatObeys r h asked old text new
   pub goes_on : GoesOn old new
 
--- out of memory, a line appends nothing: where memory was taken to read it, or by what it asks for, over all that the
--- pass has then seen
+-- out of memory, a line appends nothing. Reading it takes memory, or its request does over all that the pass has then
+-- seen
 pub record SeatLacksMemory (r : ℕ) (h : List Entries) (old : PassView) (line text : List ℕ) (new : PassView) : Type 0
   where
     pub asked : Read Command

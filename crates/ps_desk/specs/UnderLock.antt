@@ -1,4 +1,4 @@
--- What the lock of a desk keeps.
+-- What holds of the data under a desk's lock.
 use Rattle.std.specs.Prelude.{◌≡◌, ℕ, List, [], length}
 use Rattle.ps_delta.specs.Deltas.{Entries}
 use Rattle.ps_face.specs.Legal.{history_of}

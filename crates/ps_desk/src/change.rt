@@ -1,4 +1,4 @@
-//! A staged change is told to those who read, and made; or it is given up.
+//! Publishing a staged change and making it, or cancelling it.
 
 ghost use Rattle.std.specs.Prelude.{◌≡◌, ◌+◌, ◌<◌, ◌^◌, ◌++◌, ◌∷◌, [], true, None, if◌then◌else◌, is_some};
 ghost use Rattle.std.specs.Prelude.{IfOk, IfErr, OnOk, OnErr};
@@ -30,7 +30,7 @@ use std::alloc::Global;
 use std::sync::Wait;
 use std::sync::ledger::Book;
 
-/// Shows all that waits to those who look, where the next change is shown at once.
+/// Shows all waiting changes to readers, if the next change is shown at once.
 #[inline(always)]
 pub(crate) fn make_way<L: DeskName, W: Wait + Drop>(copies: &mut FaceWriter<L, W>, showing: Showing)
     ensures list { copies.new.list ≡ copies.old.list }
@@ -43,7 +43,7 @@ pub(crate) fn make_way<L: DeskName, W: Wait + Drop>(copies: &mut FaceWriter<L, W
     }
 }
 
-/// Has the pass take note that all is shown, where a change was shown at once.
+/// Records in the pass that the whole list is shown, if the change was shown at once.
 #[inline(always)]
 pub(crate) fn note_shown<L: DeskName, W: Wait + Drop, V: Wait>(
     wait: &V,
@@ -65,8 +65,8 @@ pub(crate) fn note_shown<L: DeskName, W: Wait + Drop, V: Wait>(
     }
 }
 
-/// Makes the change that is staged, and publishes it, or gives it up where there is no memory to tell of it. Then
-/// nothing is staged any more.
+/// Publishes the staged change and makes it, or cancels it when out of memory. Nothing is staged afterwards. A change
+/// that adds nothing new is made without a patch.
 #[inline(always)]
 pub(crate) fn finish<L: DeskName, W: Wait + Drop, V: Wait>(
     wait: &V,
@@ -113,7 +113,7 @@ pub(crate) fn finish<L: DeskName, W: Wait + Drop, V: Wait>(
     })
 }
 
-/// Publishes a fresh change and makes it, or gives it up where it can't be told. Returns the number of its delta in the
+/// Publishes a fresh change and makes it, or cancels it when out of memory. Returns the number of its delta in the
 /// history.
 #[inline(always)]
 fn append<L: DeskName, W: Wait + Drop, V: Wait>(
@@ -161,7 +161,8 @@ fn append<L: DeskName, W: Wait + Drop, V: Wait>(
     }
 }
 
-/// Finds the cells that the staged change makes show another value: one alone, or else they are listed.
+/// Finds the cells that show another value after the staged change. Returns the cell where there is only one, and lists
+/// the cells in the sheet otherwise.
 #[inline(always)]
 fn find_changed(sheet: &mut Staging) -> Option<Cell>
     requires staged { is_some sheet.old.staged ≡ true }
@@ -176,8 +177,9 @@ fn find_changed(sheet: &mut Staging) -> Option<Cell>
     None
 }
 
-/// Adds the patch of the fresh change that is staged, made by the call of a seat, to the published list, and shows it
-/// to those who look, at once or later. Returns its number. Refused only when out of memory, and then nothing is told.
+/// Adds the patch of the staged fresh change to the published list, and shows it to readers, at once or later. The
+/// patch has the slot `owner`. Returns the patch's number. Fails only when out of memory, and then nothing is
+/// published.
 #[inline(always)]
 fn tell<L: DeskName, W: Wait + Drop>(
     alloc: Global,
@@ -214,7 +216,7 @@ fn tell<L: DeskName, W: Wait + Drop>(
     }
 }
 
-/// The same of a change whose changed cells are listed.
+/// Does the same as `tell` for a change whose changed cells are listed.
 #[inline(never)]
 fn tell_listed<L: DeskName, W: Wait + Drop>(
     alloc: Global,
@@ -244,8 +246,8 @@ fn tell_listed<L: DeskName, W: Wait + Drop>(
     Ok(number)
 }
 
-/// Adds a patch to the published list, and shows it to those who look, at once or later. Refused only when out of
-/// memory, and then nothing is told.
+/// Adds a patch to the published list, and shows it to readers, at once or later. Fails only when out of memory, and
+/// then nothing is published.
 #[inline(always)]
 fn publish<L: DeskName, W: Wait + Drop>(
     copies: &mut FaceWriter<L, W>,
@@ -269,7 +271,7 @@ fn publish<L: DeskName, W: Wait + Drop>(
     }
 }
 
-/// One more owner of a delta. It tries again where what the delta shares has as many owners as can be counted.
+/// Returns one more owner of a delta. It retries while a shared part of the delta has as many owners as can be counted.
 pub(crate) fn share<V: Wait>(wait: &V, alloc: Global, delta: &Delta) -> Delta
     ensures { result ≡ delta.now }
 {

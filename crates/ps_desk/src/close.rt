@@ -16,11 +16,11 @@ use std::sync::Wait;
 use std::sync::ledger::Share;
 
 impl<L: DeskName, W: Wait + Drop> Desk<L, W> {
-    /// Ends the desk, and gives its sheet back, once the passes of all seats are given back.
+    /// Ends the desk, and returns its sheet, given the passes of all slots.
     ///
-    /// The history begins with what each pass stands for, and has grown since the desk was opened by just what the
-    /// passes appended. Of each seat it has as many deltas as the seat's pass appended, which are its fresh receipts'.
-    /// So each delta that was added is that of exactly one of them, and stands at its number.
+    /// The history begins with what each pass stands for. Since the desk was opened it has grown by exactly what the
+    /// passes appended. For each slot it has as many deltas as the slot's pass appended, which are those of its fresh
+    /// receipts. So each added delta belongs to exactly one of them, and stands at its number.
     ///
     /// Cost: that of freeing the published copies.
     pub fn close<V: Wait>(self, wait: &V, passes: Vec<Pass<L>>) -> Sheet
@@ -35,8 +35,8 @@ impl<L: DeskName, W: Wait + Drop> Desk<L, W> {
         sheet
     }
 
-    /// Ends the desk as [`Desk::close`] does, for somebody else who has seen what is shown up to a place. The place is
-    /// then the end of the list, which the history of the sheet stands for.
+    /// Ends the desk as [`Desk::close`] does, and moves a position outside any session to the end of the list. The
+    /// history of the sheet is what that list stands for.
     ///
     /// Cost: that of freeing the published copies.
     pub fn close_at<V: Wait>(
@@ -59,7 +59,7 @@ impl<L: DeskName, W: Wait + Drop> Desk<L, W> {
         sheet
     }
 
-    /// Ends the desk, and gives its sheet back with the end of its list, all of which was shown.
+    /// Ends the desk, and returns its sheet with the end of its list, which is shown in full.
     fn end<V: Wait>(self, wait: &V, passes: Vec<Pass<L>>) -> (Sheet, ShownPlace<L>)
         requires passes { vec_len passes ≡ self }
         ensures replica { result.0.replica ≡ L.replica }
@@ -76,7 +76,7 @@ impl<L: DeskName, W: Wait + Drop> Desk<L, W> {
     }
 }
 
-/// The shares of all passes together.
+/// Returns the shares of all passes, merged into one.
 fn gather<L: DeskName, V: Wait>(wait: &V, front: &BookPrefix, mut passes: Vec<Pass<L>>) -> Share<L>
     requires book { front.now.book ≡ L.book }
     requires legal { IsLegal L.opening front.now.list }
@@ -89,7 +89,7 @@ fn gather<L: DeskName, V: Wait>(wait: &V, front: &BookPrefix, mut passes: Vec<Pa
     merge_all(wait, front, all, passes)
 }
 
-/// The shares of passes beside a share.
+/// Returns this share, merged with the shares of these passes.
 fn merge_all<L: DeskName, V: Wait>(
     wait: &V,
     front: &BookPrefix,

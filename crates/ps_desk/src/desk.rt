@@ -18,6 +18,7 @@ ghost use Rattle.ps_desk.specs.Receipts.{IsAppended, IsReceipt, Stands};
 use crate::change::share;
 use crate::name::DeskName;
 use crate::pass::Pass;
+use crate::presence::Presence;
 use crate::receipt::{Receipt, Standing};
 use crate::showing::Showing;
 use crate::shown_place::ShownPlace;
@@ -29,13 +30,22 @@ use ps_sheet::edits_are_fresh;
 use std::alloc::Global;
 use std::marker::Model;
 use std::sync::ledger::Ledger;
-use std::sync::{Mutex, Wait};
+use std::sync::{Condvar, CondvarTimeouts, Mutex, Wait};
 use std::thread::Threads;
+use std::time::{Clock, Duration};
+
+/// How many slices of time a session waits for more changes at most, 25 seconds in all.
+const SLICES: u32 = 250;
+
+/// The milliseconds of a slice.
+const SLICE: u64 = 100;
 
 /// A sheet that several sessions share, each by its pass. A contract sees it as the number of its seats.
 #[derive(Drop)]
 pub struct Desk<L: DeskName, W: Wait + Drop> {
     state: Mutex<DeskState<L, W>>,
+    /// notified where more is shown
+    grown: Condvar,
     seats: usize,
     /// that of the sheet, which no change of it changes
     replica: u8,
@@ -61,6 +71,7 @@ impl<L: DeskName, W: Wait + Drop> Desk<L, W> {
     {
         Desk {
             state: Mutex::new(state),
+            grown: Condvar::new(),
             seats,
             replica,
         }
@@ -75,9 +86,7 @@ impl<L: DeskName, W: Wait + Drop> Desk<L, W> {
         state.into_inner()
     }
 
-    /// For how many sessions the desk is.
-    ///
-    /// Cost: constant.
+    /// Returns the number of session slots.
     pub fn seats(&self) -> usize
         ensures seats { result ≡ self.now }
         ensures parts { result ≡ L.parts }
@@ -95,13 +104,13 @@ impl<L: DeskName, W: Wait + Drop> Desk<L, W> {
         self.replica
     }
 
-    /// Makes the delta of an edit over the sheet's state, appends it to the history, and shows it to all who read.
+    /// Makes the delta of an edit over the sheet's state, appends it to the history, and shows it to all readers.
     ///
-    /// Nothing in the program calls it or [`Desk::receive`], for a `Seat` needs no delta in return. They are part
-    /// of the public interface, for who wants the receipt.
+    /// The program calls neither this nor [`Desk::receive`], since a `Seat` needs no delta in return. They are public
+    /// for callers that want the receipt.
     ///
-    /// Refused as [`ps_sheet::Sheet::edit`] is, over the history that the pass has then seen, and when out of memory,
-    /// where there is such a delta. It may wait for other calls, and for those that still read what was published
+    /// Refused as [`ps_sheet::Sheet::edit`] is, over the history that the pass has then seen. Where there is such a
+    /// delta, it may also fail when out of memory. It may wait for other calls, and for readers of what was published
     /// before the last patch.
     ///
     /// Cost: that of [`ps_sheet::Staging::stage`], and twice the cells that show another value.
@@ -133,13 +142,15 @@ impl<L: DeskName, W: Wait + Drop> Desk<L, W> {
         // for the fact that an edit's delta is never below the state
         edits_are_fresh();
         let delta = state.delta_at(wait, alloc, standing.number);
+        drop(state);
+        self.wake(true);
         Ok(standing.with_delta(delta))
     }
 
-    /// Accepts a delta made elsewhere: appends it to the history and shows it to all who read, unless it is below the
-    /// joined history already.
+    /// Accepts a delta made elsewhere: appends it to the history and shows it to all readers, unless it adds nothing
+    /// new.
     ///
-    /// Refused only when out of memory, where the delta was to be appended. It may wait as [`Desk::edit`] does.
+    /// Fails only when out of memory, and only where the delta was to be appended. It may wait as [`Desk::edit`] does.
     ///
     /// Cost: that of [`ps_sheet::Staging::stage`], and twice the cells that show another value.
     pub fn receive<R: Threads + Sync, V: Wait, M: Ledger>(
@@ -169,8 +180,8 @@ impl<L: DeskName, W: Wait + Drop> Desk<L, W> {
         Ok(standing.with_delta(told))
     }
 
-    /// Makes a change as [`Desk::edit`] and [`Desk::receive`] do, and tells where it stands, without the delta. It is
-    /// shown to those who look at once, or later.
+    /// Makes a change as [`Desk::edit`] and [`Desk::receive`] do, and returns where it stands, without the delta. It is
+    /// shown to readers at once, or later.
     #[inline(always)]
     pub(crate) fn change<R: Threads + Sync, V: Wait, M: Ledger>(
         &self,
@@ -196,33 +207,101 @@ impl<L: DeskName, W: Wait + Drop> Desk<L, W> {
         ensures seat { (pass.new.seat ≡ pass.old.seat) × (pass.new.enters ≡ pass.old.enters) }
     {
         let mut state = self.state.lock(wait);
-        state.make(rt, wait, alloc, pass, change, meter, showing)
+        let made = state.make(rt, wait, alloc, pass, change, meter, showing);
+        drop(state);
+        self.wake(!showing.hides());
+        made
     }
 
-    /// Shows to those who look all changes that wait for it, of whichever session, and returns the token for all that
-    /// the pass has seen.
+    /// Shows all waiting changes, of every session, to readers, and returns the token for all that the pass has seen.
     ///
-    /// Changes wait where they were made at a [`crate::Seat`], each directly after another one, and the session has
-    /// neither looked since nor sent its replies. Every other call of a desk that brings a pass to the end of the list
-    /// shows them as well. It may wait for other calls, and for those that still read what was shown before.
+    /// A change waits if it was made at a [`crate::Seat`] with a keeper, directly after another one, until the session
+    /// looks or sends its replies. Every other call of a desk that brings a pass to the end of the list shows waiting
+    /// changes, too. It may wait for other calls, and for readers of what was shown before.
     ///
-    /// Cost: that of publishing, which is a constant for each seat; constant where nothing waits.
+    /// Cost: that of publishing, which is a constant for each slot; constant where nothing waits.
     pub fn show<V: Wait>(&self, wait: &V, pass: &mut Pass<L>) -> ShownPlace<L>
         ensures shown { result ≡ pass.old.list }
         ensures same { pass.new ≡ pass.old }
     {
         let mut state = self.state.lock(wait);
         let shown = state.show();
+        drop(state);
+        self.wake(true);
         pass.note_shown(wait, &shown)
     }
 
-    /// The deltas of the history after the number `from`, in order, at most so many. The pass has then seen all that is
-    /// published.
+    /// How many changes the history has. The pass has then seen all that is published.
     ///
-    /// Refused where the history is shorter than the number, and when out of memory, where there are such deltas. It
-    /// may wait for other calls.
+    /// It may wait for other calls.
     ///
-    /// Cost: the deltas that are handed out.
+    /// Cost: constant, or that of [`Desk::show`] where some of it waits to be shown.
+    pub fn count<V: Wait>(&self, wait: &V, pass: &mut Pass<L>) -> u64
+        ensures later { IsPrefix pass.old.list pass.new.list }
+        ensures legal { IsLegal L.opening pass.new.list }
+        ensures number { result ≡ length (history_of L.opening pass.new.list) }
+        ensures same { (pass.new.appended ≡ pass.old.appended) × (pass.new.seat ≡ pass.old.seat)
+            × (pass.new.enters ≡ pass.old.enters) }
+    {
+        let mut state = self.state.lock(wait);
+        let shown = state.show();
+        pass.catch_up(wait, state.front());
+        let _ = pass.note_shown(wait, &shown);
+        state.version()
+    }
+
+    /// Returns the number of changes in the history, once there are more than `seen`, or after `patience`. The caller
+    /// needs no session slot, and no pass sees more because of it.
+    ///
+    /// It holds no lock while it waits. It changes nothing, and shows what waits to be shown. Where the desk is kept in
+    /// a file, the last changes may be shown and not durable yet.
+    ///
+    /// Cost: the time that it waits.
+    pub fn news<V: Wait + Clock>(&self, wait: &V, seen: u64, patience: Duration) -> u64
+        ensures there { (list : List Note) × IsLegal L.opening list
+            × (result ≡ length (history_of L.opening list)) }
+    {
+        let _ = self.has_more(wait, seen, patience);
+        let mut state = self.state.lock(wait);
+        let _ = state.show();
+        state.version()
+    }
+
+    /// Wakes all who wait for changes, where some are shown that weren't.
+    fn wake(&self, is_more_shown: bool) {
+        if is_more_shown {
+            self.grown.notify_all();
+        }
+    }
+
+    /// Waits until the history has more changes than `seen`, until the peer of a session waits no longer, or for 25
+    /// seconds. It holds no lock meanwhile, and changes nothing.
+    ///
+    /// Cost: the time that it waits, and a look at the peer ten times a second.
+    pub(crate) fn linger<V: Wait + Clock>(&self, wait: &V, seen: u64, presence: Presence<'_>) {
+        for _ in 0..SLICES {
+            if self.has_more(wait, seen, Duration::from_millis(SLICE)) || !presence.is_waiting() {
+                return;
+            }
+        }
+    }
+
+    /// Waits until the history has more changes than `seen`, or for `patience`, and returns whether it has.
+    fn has_more<V: Wait + Clock>(&self, wait: &V, seen: u64, patience: Duration) -> bool {
+        let state = self.state.lock(wait);
+        let lacks = |state: &mut DeskState<L, W>| state.version() <= seen;
+        let (state, ended) = self.grown.wait_timeout_while(wait, state, patience, lacks);
+        drop(state);
+        !ended.timed_out()
+    }
+
+    /// Returns the deltas of the history after the number `from`, in order, at most `at_most` of them. The pass has
+    /// then seen all that is published.
+    ///
+    /// Refused where the history is shorter than `from`. Where there are such deltas, it may also fail when out of
+    /// memory. It may wait for other calls.
+    ///
+    /// Cost: linear in the deltas that it returns.
     pub fn pull<V: Wait>(
         &self,
         wait: &V,
@@ -249,13 +328,13 @@ impl<L: DeskName, W: Wait + Drop> Desk<L, W> {
         state.deltas_after(alloc, from, at_most)
     }
 
-    /// The deltas of the history after the number `from`, in order, for somebody who isn't at one of the seats: no pass
-    /// sees more for it. The place is then the end of the published list.
+    /// Returns the deltas of the history after the number `from`, in order, to a caller without a session slot. No pass
+    /// sees more because of it. The position moves to the end of the published list.
     ///
-    /// Refused where the history is shorter than the number, and when out of memory, where there are such deltas. It
-    /// may wait for other calls.
+    /// Refused where the history is shorter than `from`. Where there are such deltas, it may also fail when out of
+    /// memory. It may wait for other calls.
     ///
-    /// Cost: the deltas that are handed out.
+    /// Cost: linear in the deltas that it returns.
     pub fn later<V: Wait>(
         &self,
         wait: &V,
@@ -272,13 +351,17 @@ impl<L: DeskName, W: Wait + Drop> Desk<L, W> {
         ensures asked { IfErr result (λ e. e ≡ Memory → from < length (history_of L.opening place.new)) }
     {
         let mut state = self.state.lock(wait);
+        let had_hidden = state.has_hidden();
         let shown = state.show();
         place.catch_up(wait, shown);
-        state.deltas_after(alloc, from, usize::MAX)
+        let deltas = state.deltas_after(alloc, from, usize::MAX);
+        drop(state);
+        self.wake(had_hidden);
+        deltas
     }
 
-    /// Whether the sheet had, at some time of the call, all of a delta that its own replica made. Where it hadn't, the
-    /// replica's number is used elsewhere, too, or changes of its own were lost.
+    /// Returns whether the sheet had, at some moment of the call, all of a delta that its own replica made. If it
+    /// hadn't, the replica's number is in use elsewhere, too, or changes of its own were lost.
     ///
     /// It may wait for other calls.
     ///

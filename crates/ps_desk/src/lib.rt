@@ -1,34 +1,40 @@
 //! A desk: one sheet that several sessions share.
 //!
-//! Under a lock lie the sheet, the writer of its published copies, and the book that counts what the passes appended.
-//! A call that changes the sheet works the change out, tells the copies of it, and makes it; where the copies can't be
-//! told, it gives the change up. So what is published is at all times what the sheet's history has.
+//! Under a lock are the sheet, the writer of its published copies, and the book that counts what the passes appended. A
+//! call that changes the sheet prepares the change, publishes it to the copies, and makes it. Where it can't be
+//! published, the call cancels the change. So what is published is at all times what the sheet's history has.
 //!
 //! It evaluates nothing, makes no deltas and copies no values: that is the sheet's and the copies' work. How a line is
 //! read and a reply is written is `ps_session`'s; it opens no connection and starts no thread.
 //!
-//! A pass belongs to a session. It holds a beginning of the published list, that which the session has seen, and it
-//! counts what its session appended. It reads the copies with no lock.
+//! A pass belongs to a session. It holds the beginning of the published list that the session has seen, and counts what
+//! its session appended. It reads the copies without a lock.
 //!
-//! The contract to use is that of [`Desk::edit`], [`Desk::receive`], [`Desk::pull`], [`Pass::read`] and
-//! [`Pass::read_all`]. What the pass has seen only grows. A fresh [`Receipt`] has a number above all that was seen
-//! before, at which its delta stands. A read shows the settled values of a whole history, and so of one that has all
-//! that the pass had seen or appended. A pull hands out just the deltas after a number.
-//! [`Desk::close`] gives the sheet back: its history begins with what each pass stands for, and has grown by just what
-//! the passes appended.
+//! The contracts to use are those of [`Desk::edit`], [`Desk::receive`], [`Desk::pull`], [`Pass::read`] and
+//! [`Pass::read_all`]:
 //!
-//! A [`Seat`] is a desk and a session's pass: a `Board` of `ps_session`, so that `talk` answers the lines of a session
-//! by it. Each reply is the answer of one of these calls, with the number of its receipt, and what the pass has seen
-//! after a line is what it has seen before the next (`specs/Seats.antt`). What a whole session leaves of its pass goes
-//! on from what it was (`GoesOn`), whatever the session came to: the lemmas of `proofs/SeatRuns.antt`.
+//! - What the pass has seen only grows.
+//! - A fresh [`Receipt`] has a number above all that was seen before, and its delta stands there.
+//! - A read shows the settled values of a whole history, which has all that the pass had seen or appended.
+//! - A pull returns exactly the deltas after a number.
+//! - [`Desk::close`] returns the sheet. Its history begins with what each pass stands for, and has grown by exactly
+//!   what the passes appended.
 //!
-//! A [`Place`] is a beginning of the list, and a [`ShownPlace`] one that is shown to all who look: only a look at the
-//! copies makes such a token, and a call that shows what waits. A session sends no reply before its [`Publisher`] has a
-//! token for all that the session has seen, so what a reply tells of is there for everybody.
+//! A [`Seat`] is a desk and a session's pass. It is a `Board` of `ps_session`, so `talk` answers the lines of a session
+//! by it. Each reply is the answer of one of these calls, with the number of its receipt. What the pass has seen after
+//! a line is what it has seen before the next (`specs/Seats.antt`). A whole session continues from what its pass was
+//! (`GoesOn`), even if it fails: see the lemmas of `proofs/SeatRuns.antt`.
 //!
-//! Somebody who isn't at one of the seats, as a journal, follows what is shown from place to place: [`Desk::later`]
-//! returns the deltas after a number, and no pass sees more for it. [`Desk::close_at`] brings such a place to the end
-//! of the list that is closed.
+//! A [`Place`] is a beginning of the list, and a [`ShownPlace`] one that is shown to all readers. Only a look at the
+//! copies makes such a token, or a call that shows waiting changes. A session sends no reply before its [`Publisher`]
+//! has a token for all that the session has seen. So whatever a reply mentions is visible to everyone.
+//!
+//! Code without a session slot, such as a journal, follows what is shown from position to position. For it
+//! [`Desk::later`] returns the deltas after a number, and no pass sees more because of it. [`Desk::close_at`] moves
+//! such a position to the end of the closed list.
+//!
+//! A session may wait for news ([`Seat`]'s `wait`), while its [`Presence`] says whether its peer still does. Code
+//! without a slot waits by [`Desk::news`]. Both sleep without the lock, and a change wakes them.
 //!
 //! A desk is opened from [`Parts`], which are made before its name is picked; [`Desk::open`] is called in a function
 //! that is generic in the name. It gives a pass for each seat, and each has seen nothing; or the sheet comes back.
@@ -38,8 +44,7 @@
 //! one. On a seat with this pass the line `set A1 5` is answered `ok 5`.
 //!
 //! Cost: a change costs what preparing it does, and twice the cells that show another value. A read of one cell is
-//! constant, and a pull costs what it hands out. The line `rows` costs the
-//! cells of its rectangle.
+//! constant, and a pull is linear in what it returns. The line `rows` costs the cells of its rectangle.
 #![tactic(auto)]
 
 mod change;
@@ -51,6 +56,7 @@ mod parts;
 mod pass;
 mod patch;
 mod place;
+mod presence;
 mod publisher;
 mod receipt;
 mod seat;
@@ -65,6 +71,7 @@ pub use name::DeskName;
 pub use parts::Parts;
 pub use pass::Pass;
 pub use place::Place;
+pub use presence::Presence;
 pub use publisher::Publisher;
 pub use receipt::Receipt;
 pub use seat::Seat;

@@ -20,8 +20,10 @@ use std::sync::Wait;
 use std::sync::ledger::Share;
 
 impl<L: DeskName, W: Wait + Drop> Desk<L, W> {
-    /// Opens a desk over a sheet, and gives a pass for each seat. The sheet comes back where it is refused: where
-    /// memory runs out, and where a reader of the published copies gets no place.
+    /// Opens a desk over a sheet, and returns a pass for each slot.
+    ///
+    /// When out of memory, or where a reader of the published copies gets no slot, it returns the sheet with the
+    /// refusal.
     ///
     /// The caller picks the name: it is that of the parts.
     ///

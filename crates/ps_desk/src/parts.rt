@@ -1,4 +1,4 @@
-//! What a desk is opened from.
+//! The parts from which a desk is opened.
 
 ghost use Rattle.std.specs.Prelude.{◌≡◌, ◌≤◌};
 ghost use Rattle.ps_grid.specs.declared.parties.TheConstants.{SEATS as MOST};
@@ -8,14 +8,14 @@ use ps_sheet::Sheet;
 use std::marker::Model;
 use std::sync::ledger::Blank;
 
-/// A sheet that is to be shared by so many seats. It is made before the desk's name is picked, since the name tells of
-/// what is in it. A contract sees it as its `PartsView`.
+/// A sheet for a number of session slots. It is made before the desk's name is picked, since the name says what is in
+/// it. A contract sees it as its `PartsView`.
 #[derive(Drop)]
 pub struct Parts {
     pub(crate) sheet: Sheet,
-    /// the list that is to be published, still empty
+    /// the list that will be published, still empty
     pub(crate) opened: NewBook,
-    /// the ledger of what is appended, with a part for each seat
+    /// the ledger of what is appended, with a part for each slot
     pub(crate) blank: Blank,
     pub(crate) seats: usize,
 }
@@ -42,9 +42,7 @@ impl Model for Parts {
 }
 
 impl Parts {
-    /// A sheet for so many seats, 1 to `SEATS`.
-    ///
-    /// Cost: constant, no memory.
+    /// Creates the parts of a desk with this sheet and `seats` slots, 1 to `SEATS`.
     pub fn new(sheet: Sheet, seats: usize) -> Parts
         requires seats { (1 ≤ seats) × (seats ≤ MOST) }
         ensures sheet { result.sheet ≡ sheet }

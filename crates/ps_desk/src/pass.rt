@@ -26,9 +26,9 @@ use std::sync::ledger::{Book, Share};
 /// A session's pass to a desk. A contract sees it as its `PassView`.
 #[derive(Drop)]
 pub struct Pass<L: DeskName> {
-    /// out while a copy is read
+    /// absent while a copy is read
     reader: Option<FaceReader<L>>,
-    /// how far the list is known to be shown to all
+    /// the beginning of the list that is known to be shown to all readers
     shown: ShownPlace<L>,
     /// this seat's part of what was appended
     share: Share<L>,
@@ -76,9 +76,8 @@ impl<L: DeskName> Pass<L> {
         }
     }
 
-    /// How many deltas this pass appended. The list that it has seen has as many patches of its seat, or more.
-    ///
-    /// Cost: constant.
+    /// Returns the number of deltas that this pass appended. The list that it has seen has at least as many patches of
+    /// its slot.
     pub fn appended(&self) -> u64
         ensures appended { result ≡ self.now.appended }
         ensures owned { result ≤ owned_by self.now.seat self.now.list }
@@ -86,10 +85,10 @@ impl<L: DeskName> Pass<L> {
         self.appended
     }
 
-    /// What a cell shows now, with the version that it is of. None means that the desk is gone.
+    /// Returns what a cell shows now, and its version. None means that the desk is gone.
     ///
-    /// It is the settled value of a history that a legal published list stands for, and the list begins with all that
-    /// this pass had seen or appended.
+    /// It is the settled value of a history that a legal published list stands for. The list begins with all that this
+    /// pass had seen or appended.
     ///
     /// Cost: constant; no lock, no wait and no memory.
     pub fn read(&mut self, cell: Cell) -> Option<Shot>
@@ -113,11 +112,10 @@ impl<L: DeskName> Pass<L> {
         Some(shot)
     }
 
-    /// Writes what all cells show now, in order, and answers the version that it is of. None means that the desk is
-    /// gone.
+    /// Writes what all cells show now, in order, and returns their version. None means that the desk is gone.
     ///
-    /// All are settled values of the one history that a legal published list stands for, and the list begins with all
-    /// that this pass had seen or appended. It is part of the public interface, for who wants all values at once.
+    /// All are settled values of one history that a legal published list stands for. The list begins with all that this
+    /// pass had seen or appended. It is public for callers that want all values at once.
     ///
     /// Cost: the cells of the grid; no lock, no wait and no memory.
     pub fn read_all(&mut self, values: &mut [Value]) -> Option<u64>
@@ -139,7 +137,7 @@ impl<L: DeskName> Pass<L> {
         Some(version)
     }
 
-    /// What the cells of a rectangle show now, as a table, by one look at the published copies.
+    /// Returns what the cells of a rectangle show now, as a table, by one look at the published copies.
     ///
     /// Refused where the desk is gone, and when out of memory.
     ///
@@ -158,25 +156,22 @@ impl<L: DeskName> Pass<L> {
         table
     }
 
-    /// The seat that the pass is for.
-    ///
-    /// Cost: constant.
+    /// Returns the number of the slot that the pass is for.
     pub fn seat(&self) -> u64
         ensures { result ≡ self.now.seat }
     {
         self.seat
     }
 
-    /// The place in the list up to which the pass has seen it.
-    ///
-    /// Cost: constant, no memory.
+    /// Returns the position up to which the pass has seen the list.
     pub fn place(&self) -> Place<L>
         ensures { result ≡ self.now.list }
     {
         Place::new(self.reader.as_ref().unwrap().front().again())
     }
 
-    /// The token for all that the pass has seen, where that is known to be shown to all. It always is of nothing.
+    /// Returns the token for all that the pass has seen, where that is known to be shown to all readers. While the pass
+    /// has seen nothing, there is always one.
     pub fn shown(&self) -> Option<ShownPlace<L>>
         ensures shown { IfSome result (λ shown. shown ≡ self.now.list) }
         ensures unknown { IfNone result (self.now.list ≢ []) }
@@ -184,8 +179,8 @@ impl<L: DeskName> Pass<L> {
         self.shown.part(self.place())
     }
 
-    /// Takes note that all that the pass has seen is shown, with more. No run meets a token of less, for which it would
-    /// wait for ever.
+    /// Records that all that the pass has seen is shown, and returns the token for it. No run meets a token of less:
+    /// the call would wait for ever.
     pub(crate) fn note_shown<V: Wait>(&mut self, wait: &V, shown: &ShownPlace<L>) -> ShownPlace<L>
         ensures shown { result ≡ self.old.list }
         ensures same { self.new ≡ self.old }
@@ -198,8 +193,8 @@ impl<L: DeskName> Pass<L> {
         own
     }
 
-    /// Has seen the list up to a place that is shown, or further where it had, so that each look from then on has that,
-    /// too. It is part of the public interface, for who hands places from one pass to another.
+    /// Marks the list as seen up to a position that is shown, or further where it was already. Each later look has
+    /// that, too. It is public for callers that pass positions from one pass to another.
     pub fn learn(&mut self, shown: &ShownPlace<L>)
         ensures later { IsPrefix self.old.list self.new.list }
         ensures seen { IsPrefix shown.now self.new.list }
@@ -213,7 +208,7 @@ impl<L: DeskName> Pass<L> {
         self.reader = Some(reader);
     }
 
-    /// Has seen the whole published list. No run meets a pass that has seen more, for which it would wait for ever.
+    /// Marks the whole published list as seen. No run meets a pass that has seen more: the call would wait for ever.
     pub(crate) fn catch_up<V: Wait>(&mut self, wait: &V, front: &BookPrefix)
         requires book { front.now.book ≡ L.book }
         requires legal { IsLegal L.opening front.now.list }
@@ -260,8 +255,8 @@ impl<L: DeskName> Pass<L> {
     }
 }
 
-/// Takes the copy that is published now, with the reader, which is out until it leaves. None means that the desk is
-/// gone, and then the reader is there still.
+/// Enters the copy that is published now. The reader is absent until it leaves. None means that the desk is gone, and
+/// then the reader is still there.
 #[inline(always)]
 fn enter<L: DeskName>(reader: &mut Option<FaceReader<L>>) -> Option<Seen<L>>
     requires here { IsSome reader.old }

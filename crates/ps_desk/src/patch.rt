@@ -17,8 +17,8 @@ use ps_sheet::Staging;
 use ps_shown::{Kept, Shown};
 use std::alloc::Global;
 
-/// The patch of the fresh change that is staged, which makes this cell alone show another value, and that is kept; made
-/// by the call of a seat. It may come next after the sheet's history.
+/// Returns the patch of the staged fresh change, which changes the shown value of this cell alone, by a call of the
+/// slot `owner`. It may come next after the sheet's history.
 #[inline(always)]
 pub(crate) fn patch_of_one(sheet: &Staging, cell: Cell, kept: Kept, owner: u64) -> Patch<'_>
     requires staged { is_some sheet.now.staged ≡ true }
@@ -31,8 +31,8 @@ pub(crate) fn patch_of_one(sheet: &Staging, cell: Cell, kept: Kept, owner: u64) 
     Patch::of_one(sheet.report().version, sheet.delta(), (cell, kept), owner)
 }
 
-/// The patch of the fresh change that is staged, which makes the cells that are listed show other values; made by the
-/// call of a seat. It may come next after the sheet's history. Refused only when out of memory.
+/// Returns the patch of the staged fresh change, which changes the shown values of the listed cells, by a call of the
+/// slot `owner`. It may come next after the sheet's history. Fails only when out of memory.
 pub(crate) fn patch_of_listed(
     alloc: Global,
     sheet: &Staging,
@@ -57,7 +57,7 @@ pub(crate) fn patch_of_listed(
     )
 }
 
-/// The patch of a delta that makes these cells show what a table has. That of one cell takes no memory.
+/// Returns the patch of a delta after which these cells show what a table has. A patch of one cell takes no memory.
 fn patch_over<'a>(
     alloc: Global,
     number: u64,
@@ -82,7 +82,7 @@ fn patch_over<'a>(
     Ok(Patch::new(number, delta, changes, owner))
 }
 
-/// Cells with what a table keeps of them, where a text gets one more owner.
+/// Returns the cells with what a table stores of them. A text gets one more owner.
 fn copy_shown(alloc: Global, cells: &[Cell], shown: &Shown) -> Result<Vec<(Cell, Kept)>, Refusal>
     ensures copied { IfOk result (λ c. map valued c.items ≡ map (shown_of (shown_at shown.now)) cells.now) }
     ensures memory { IfErr result (λ e. e ≡ Memory) }

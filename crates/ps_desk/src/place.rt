@@ -1,4 +1,4 @@
-//! How far somebody has come in the list of a desk.
+//! A position in the published list of a desk.
 
 ghost use Rattle.std.specs.Prelude.{◌≡◌, ◌<◌, ◌≤◌, length, MatchBool};
 ghost use mathlib.Core.List.{IsPrefix};
@@ -8,7 +8,7 @@ use crate::name::DeskName;
 use ps_face::BookPrefix;
 use std::marker::{Model, PhantomData};
 
-/// A beginning of the published list of a desk, as a token: how far somebody has come who isn't at one of its seats. It
+/// A position in the published list of a desk, held outside any session. It is a token for the list up to there, and
 /// shows no values. A contract sees it as that list.
 #[derive(Drop)]
 pub struct Place<L: DeskName> {
@@ -33,7 +33,7 @@ impl<L: DeskName> Model for Place<L> {
 }
 
 impl<L: DeskName> Place<L> {
-    /// Where a beginning of the list ends.
+    /// Creates the position at the end of this beginning of the list.
     pub(crate) fn new(front: BookPrefix) -> Place<L>
         requires book { front.book ≡ L.book }
         requires legal { IsLegal L.opening front.list }
@@ -45,9 +45,7 @@ impl<L: DeskName> Place<L> {
         }
     }
 
-    /// The same place once more.
-    ///
-    /// Cost: constant, no memory.
+    /// Returns a second token for the same position.
     pub fn again(&self) -> Place<L>
         ensures { result ≡ self.now }
     {
@@ -57,9 +55,7 @@ impl<L: DeskName> Place<L> {
         }
     }
 
-    /// Whether the other place is as far, or further. Then its list begins with this one.
-    ///
-    /// Cost: constant.
+    /// Returns whether the other position is as far, or further. Then its list begins with this one's.
     pub fn begins(&self, other: &Place<L>) -> bool
         ensures begins { MatchBool result
             (IsPrefix self.now other.now × (length self.now ≤ length other.now))

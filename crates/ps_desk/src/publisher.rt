@@ -11,8 +11,8 @@ use std::alloc::Global;
 use std::marker::Model;
 use std::sync::Wait;
 
-/// Has all that a session has seen shown to those who look, before the session sends its replies. A contract sees it as
-/// the list that was shown.
+/// A keeper that shows all that a session has seen to readers, before the session sends its replies. A contract sees it
+/// as the list that was shown.
 #[derive(Drop)]
 pub struct Publisher<L: DeskName> {
     shown: ShownPlace<L>,
@@ -32,7 +32,7 @@ impl<L: DeskName> Model for Publisher<L> {
 }
 
 impl<L: DeskName> Publisher<L> {
-    /// The publisher of a session that begins.
+    /// Creates the publisher of a session that begins.
     ///
     /// Cost: that of [`Seat::show`].
     pub fn new<W: Wait + Drop, V: Wait>(seat: &mut Seat<'_, L, W, V>) -> Publisher<L>
@@ -43,7 +43,7 @@ impl<L: DeskName> Publisher<L> {
         Publisher { shown: seat.show() }
     }
 
-    /// What was shown.
+    /// Ends the publisher, and returns the token for what was shown.
     pub fn leave(self) -> ShownPlace<L>
         ensures { result ≡ self }
     {
@@ -52,7 +52,7 @@ impl<L: DeskName> Publisher<L> {
     }
 }
 
-/// What a session has seen, by whichever session it was made, is shown to all before its replies are sent.
+/// Before a session sends its replies, all that it has seen is shown to everyone, whichever session made it.
 impl<L: DeskName, W: Wait + Drop, V: Wait> Keeper<Seat<'_, L, W, V>> for Publisher<L> {
     ghost use Rattle.std.specs.Prelude.{⊤};
     ghost use mathlib.Core.List.{IsPrefix};
@@ -66,7 +66,7 @@ impl<L: DeskName, W: Wait + Drop, V: Wait> Keeper<Seat<'_, L, W, V>> for Publish
     fn sync(&mut self, _alloc: Global, board: &mut Seat<'_, L, W, V>) -> Result<(), Failed> {
         let shown = board.show();
         if !self.shown.has(shown.place()) {
-            // for the fact that what was shown before is a beginning of it
+            // for the fact that the list shown before is a beginning of this one
             let _ = shown.has(self.shown.place());
             self.shown = shown;
         }

@@ -1,4 +1,4 @@
-//! What a session is told of a change.
+//! The receipt of a change.
 
 ghost use Rattle.std.specs.Prelude.{◌≡◌};
 ghost use Rattle.ps_desk.specs.Receipts.{merged_of, with_delta};
@@ -6,11 +6,11 @@ ghost use Rattle.ps_desk.specs.Receipts.{merged_of, with_delta};
 use ps_delta::Delta;
 use ps_session::Merged;
 
-/// What a change came to: its delta, and where that stands in the history.
+/// The result of a change: its delta, and where that stands in the history.
 #[derive(Drop)]
 pub struct Receipt {
-    /// The number of the delta in the history, where it is fresh. Else the length of the history, whose join the delta
-    /// was below.
+    /// The number of the delta in the history, if it is fresh. Otherwise the length of the history, to which the delta
+    /// added nothing new.
     pub number: u64,
     /// The delta.
     pub delta: Delta,
@@ -21,14 +21,14 @@ pub struct Receipt {
 /// Where a change stands in the history: its receipt without the delta.
 #[derive(Drop)]
 pub(crate) struct Standing {
-    /// as that of [`Receipt`]
+    /// the number as [`Receipt`] has it
     pub(crate) number: u64,
-    /// as that of [`Receipt`]
+    /// whether the change appended the delta
     pub(crate) fresh: bool,
 }
 
 impl Standing {
-    /// What a merge came to that stands so.
+    /// Returns the result of a merge that stands there.
     pub(crate) fn merged(&self) -> Merged
         ensures { result ≡ merged_of self.now.number self.now.fresh }
     {
@@ -39,7 +39,7 @@ impl Standing {
         }
     }
 
-    /// The receipt, with its delta.
+    /// Returns the receipt with this delta.
     pub(crate) fn with_delta(self, delta: Delta) -> Receipt
         ensures { result ≡ with_delta self delta }
     {

@@ -6,6 +6,7 @@ use crate::desk::Desk;
 use crate::name::DeskName;
 use crate::pass::Pass;
 use crate::place::Place;
+use crate::presence::Presence;
 use crate::showing::Stream;
 use crate::shown_place::ShownPlace;
 use ps_delta::{Change, Delta, Edit};
@@ -19,14 +20,17 @@ use std::marker::Model;
 use std::sync::Wait;
 use std::sync::ledger::Ledger;
 use std::thread::Threads;
+use std::time::Clock;
 
 /// A desk and a session's pass to it, which together answer the lines of the session. A contract sees it as the pass.
 #[derive(Drop)]
 pub struct Seat<'a, L: DeskName, W: Wait + Drop, V: Wait> {
     desk: &'a Desk<L, W>,
-    /// by which it waits for the desk's lock
+    /// the means by which it waits for the desk's lock
     wait: &'a V,
     pass: Pass<L>,
+    /// the peer, which may stop waiting for a reply
+    presence: Presence<'a>,
     /// how its changes follow each other
     stream: Stream,
 }
@@ -44,30 +48,32 @@ impl<'a, L: DeskName, W: Wait + Drop, V: Wait> Model for Seat<'a, L, W, V> {
 }
 
 impl<'a, L: DeskName, W: Wait + Drop, V: Wait> Seat<'a, L, W, V> {
-    /// A session with its pass.
-    ///
-    /// Cost: constant.
-    pub fn new(desk: &'a Desk<L, W>, wait: &'a V, pass: Pass<L>) -> Seat<'a, L, W, V>
+    /// Creates a session at a desk, with its pass and its peer.
+    pub fn new(
+        desk: &'a Desk<L, W>,
+        wait: &'a V,
+        pass: Pass<L>,
+        presence: Presence<'a>,
+    ) -> Seat<'a, L, W, V>
         ensures { result ≡ pass }
     {
         Seat {
             desk,
             wait,
             pass,
+            presence,
             stream: Stream::new(),
         }
     }
 
-    /// The place in the list up to which the session has seen it.
-    ///
-    /// Cost: constant, no memory.
+    /// Returns the position up to which the session has seen the list.
     pub fn place(&self) -> Place<L>
         ensures { result ≡ self.now.list }
     {
         self.pass.place()
     }
 
-    /// Shows all that the session has seen to those who look, what it changed with it, and returns the token for that.
+    /// Shows all that the session has seen to readers, its own changes included, and returns the token for it.
     ///
     /// Cost: constant, or that of [`Desk::show`] where some of it waits to be shown.
     pub fn show(&mut self) -> ShownPlace<L>
@@ -81,16 +87,15 @@ impl<'a, L: DeskName, W: Wait + Drop, V: Wait> Seat<'a, L, W, V> {
         }
     }
 
-    /// Has a keeper show what the session changes before its replies are sent, so that changes that directly follow
-    /// each other can be shown together. Without one each is shown at once.
+    /// Leaves it to a keeper to show the session's changes before its replies are sent. So changes that directly follow
+    /// each other can be shown together. Without a keeper each change is shown at once.
     pub fn leave_to_keeper(&mut self)
         ensures same { self.new ≡ self.old }
     {
         self.stream.is_kept = true;
     }
 
-    /// Takes note that all that the session has seen is shown, with more. No run meets a token of less, for which it
-    /// would wait for ever.
+    /// Records that all that the session has seen is shown. No run meets a token of less: the call would wait for ever.
     pub fn note_shown(&mut self, shown: &ShownPlace<L>)
         ensures same { self.new ≡ self.old }
     {
@@ -98,7 +103,7 @@ impl<'a, L: DeskName, W: Wait + Drop, V: Wait> Seat<'a, L, W, V> {
         let _ = self.pass.note_shown(self.wait, shown);
     }
 
-    /// Gives the pass back, once all that the session has seen is shown.
+    /// Shows all that the session has seen, and returns its pass.
     ///
     /// Cost: constant, or that of [`Desk::show`] where some of it waits to be shown.
     pub fn leave(mut self) -> Pass<L>
@@ -110,7 +115,8 @@ impl<'a, L: DeskName, W: Wait + Drop, V: Wait> Seat<'a, L, W, V> {
     }
 }
 
-impl<L: DeskName, W: Wait + Drop, V: Wait, M: Ledger> Board<Meter<M>> for Seat<'_, L, W, V> {
+impl<L: DeskName, W: Wait + Drop, V: Wait + Clock, M: Ledger> Board<Meter<M>>
+    for Seat<'_, L, W, V> {
     ghost use Rattle.ps_desk.specs.Seats.{SeatAnswers, SeatCalls};
 
     ghost calls = { SeatCalls L.replica L.opening };
@@ -195,6 +201,15 @@ impl<L: DeskName, W: Wait + Drop, V: Wait, M: Ledger> Board<Meter<M>> for Seat<'
     fn pull(&mut self, alloc: Global, from: u64, most: usize) -> Result<Vec<Delta>, Refusal> {
         self.stream.has_changed = false;
         self.desk.pull(self.wait, alloc, &mut self.pass, from, most)
+    }
+
+    fn wait(&mut self, seen: u64, is_last: bool) -> u64 {
+        // what the session changed is shown to all while it waits
+        let _ = self.show();
+        if is_last {
+            self.desk.linger(self.wait, seen, self.presence);
+        }
+        self.desk.count(self.wait, &mut self.pass)
     }
 
     fn replica(&mut self) -> u8 {

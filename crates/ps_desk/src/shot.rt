@@ -1,12 +1,12 @@
-//! What a read of one cell tells.
+//! The result of reading one cell.
 
 use ps_value::Value;
 
-/// What a cell shows, and the version that it is of.
+/// A cell's shown value, and its version.
 #[derive(Drop)]
 pub struct Shot {
-    /// The length of the history.
+    /// The length of the history that the value is of.
     pub version: u64,
-    /// What the cell shows after it.
+    /// The cell's value after that history.
     pub value: Value,
 }

@@ -1,25 +1,35 @@
-//! When a change is shown to those who look at the published copies.
+//! When a change is shown to readers of the published copies.
 
-/// When a change is shown to those who look.
+/// The moment at which a change is shown to readers.
 #[derive(Clone, Copy)]
 pub(crate) enum Showing {
-    /// By the call that makes it, with all that waits.
+    /// The call that makes the change, which shows all waiting changes, too.
     AtOnce,
-    /// By the next call that shows what waits.
+    /// The next call that shows waiting changes.
     Later,
 }
 
-/// How a session's changes follow each other.
+impl Showing {
+    /// Returns whether the change waits to be shown.
+    pub(crate) fn hides(self) -> bool {
+        match self {
+            Showing::AtOnce => false,
+            Showing::Later => true,
+        }
+    }
+}
+
+/// The order of a session's changes, looks and replies, as it decides when the next change is shown.
 #[derive(Clone, Copy)]
 pub(crate) struct Stream {
-    /// A keeper shows what the session changed before its replies are sent.
+    /// Whether a keeper shows what the session changed before its replies are sent.
     pub(crate) is_kept: bool,
-    /// The session has changed something, and has neither looked since nor sent its replies.
+    /// Whether the session has changed something, and neither looked nor sent its replies since.
     pub(crate) has_changed: bool,
 }
 
 impl Stream {
-    /// A session that has changed nothing, and has no keeper.
+    /// Creates the state of a session that has changed nothing, and has no keeper.
     pub(crate) fn new() -> Stream {
         Stream {
             is_kept: false,
@@ -27,7 +37,8 @@ impl Stream {
         }
     }
 
-    /// When the next change is shown. Where a keeper shows what waits, one that directly follows another one waits.
+    /// Returns when the next change is shown, and counts it. With a keeper, a change that directly follows another one
+    /// waits.
     #[inline(always)]
     pub(crate) fn next(&mut self) -> Showing {
         let waits = self.is_kept && self.has_changed;

@@ -1,4 +1,4 @@
-//! How far a desk's changes are shown.
+//! A position up to which a desk's changes are shown.
 
 ghost use Rattle.std.specs.Prelude.{◌≡◌, ◌<◌, ◌≤◌, length, IfNone, IfSome, MatchBool};
 ghost use mathlib.Core.List.{IsPrefix};
@@ -10,10 +10,10 @@ use ps_face::ShownPrefix;
 use std::marker::Model;
 use std::sync::Wait;
 
-/// A token for a beginning of the published list of a desk that is shown to all who look. A contract sees it as that
+/// A token for a beginning of the published list of a desk that is shown to all readers. A contract sees it as that
 /// list.
 ///
-/// Only a look at the published copies makes one, and a call of the desk that shows what waits.
+/// Only a look at the published copies makes one, or a call of the desk that shows waiting changes.
 #[derive(Drop)]
 pub struct ShownPlace<L: DeskName> {
     place: Place<L>,
@@ -33,7 +33,7 @@ impl<L: DeskName> Model for ShownPlace<L> {
 }
 
 impl<L: DeskName> ShownPlace<L> {
-    /// Where what is shown ends.
+    /// Creates the token for what is shown.
     pub(crate) fn new(shown: &ShownPrefix) -> ShownPlace<L>
         requires book { shown.now.book ≡ L.book }
         requires legal { IsLegal L.opening shown.now.list }
@@ -44,7 +44,7 @@ impl<L: DeskName> ShownPlace<L> {
         }
     }
 
-    /// A second token for the same beginning.
+    /// Returns a second token for the same beginning.
     pub fn again(&self) -> ShownPlace<L>
         ensures { result ≡ self.now }
     {
@@ -53,14 +53,14 @@ impl<L: DeskName> ShownPlace<L> {
         }
     }
 
-    /// The place where it ends.
+    /// Returns the position where it ends.
     pub fn place(&self) -> &Place<L>
         ensures { result.now ≡ self.now }
     {
         &self.place
     }
 
-    /// Whether all up to this place is shown.
+    /// Returns whether the list is shown up to this position.
     pub fn has(&self, place: &Place<L>) -> bool
         ensures { MatchBool result
             (IsPrefix place.now self.now × (length place.now ≤ length self.now))
@@ -69,7 +69,7 @@ impl<L: DeskName> ShownPlace<L> {
         place.begins(&self.place)
     }
 
-    /// The token for what is shown up to a place, if all up to there is.
+    /// Returns the token for the list up to a position, if that is shown.
     pub(crate) fn part(&self, place: Place<L>) -> Option<ShownPlace<L>>
         ensures shown { IfSome result (λ part. part ≡ place) }
         ensures longer { IfNone result (length self.now < length place) }
@@ -80,7 +80,7 @@ impl<L: DeskName> ShownPlace<L> {
         None
     }
 
-    /// Comes to the end of what is shown now. No run meets a token that is beyond it, for which it would wait for ever.
+    /// Moves to the end of what is shown now. No run meets a token beyond it: the call would wait for ever.
     pub(crate) fn catch_up<V: Wait>(&mut self, wait: &V, now: ShownPlace<L>)
         ensures later { IsPrefix self.old now }
         ensures all { self.new ≡ now }

@@ -36,13 +36,15 @@ use std::thread::Threads;
 
 /// The sheet, the writer of its published copies, and the book of what was appended. A contract sees it as that writer.
 ///
-/// Nothing is staged in the sheet between two calls. What is shown is a beginning of the list, which has more only where
-/// changes wait.
+/// Nothing is staged in the sheet between two calls. What is shown is a beginning of the list. The list has more only
+/// where changes wait.
 #[derive(Drop)]
 pub(crate) struct DeskState<L: DeskName, W: Wait + Drop> {
     sheet: Staging,
     copies: FaceWriter<L, W>,
     book: Book<L>,
+    /// a change was made that is to be shown later, and nothing was shown since
+    has_hidden: bool,
 }
 
 impl<L: DeskName, W: Wait + Drop> Model for DeskState<L, W> {
@@ -79,6 +81,7 @@ impl<L: DeskName, W: Wait + Drop> DeskState<L, W> {
             sheet: Staging::new(sheet),
             copies,
             book,
+            has_hidden: false,
         }
     }
 
@@ -90,18 +93,34 @@ impl<L: DeskName, W: Wait + Drop> DeskState<L, W> {
         self.copies.front()
     }
 
+    /// How many changes the history has.
+    pub(crate) fn version(&self) -> u64
+        ensures version { result ≡ length (history_of L.opening self.now.list) }
+        ensures legal { IsLegal L.opening self.now.list }
+    {
+        // for the fact that the list is legal
+        let _ = self.front();
+        self.sheet.version()
+    }
+
+    /// Whether some of the published list may wait to be shown.
+    pub(crate) fn has_hidden(&self) -> bool {
+        self.has_hidden
+    }
+
     /// Shows all of the published list to those who look.
     pub(crate) fn show(&mut self) -> ShownPlace<L>
         ensures copies { self.new ≡ record self.old { shown = self.old.list } }
         ensures shown { result ≡ self.new.list }
     {
         self.copies.show();
+        self.has_hidden = false;
         // for the fact that the list is legal
         let _ = self.copies.front();
         ShownPlace::new(&self.copies.shown())
     }
 
-    /// Ends it, where the shares of all passes are gathered.
+    /// Ends the desk, given the merged shares of all passes, and returns its sheet.
     pub(crate) fn end(self, all: &mut Share<L>) -> Sheet
         requires all { all.old.parts ≡ L.parts }
         ensures replica { result.replica ≡ L.replica }
@@ -113,16 +132,17 @@ impl<L: DeskName, W: Wait + Drop> DeskState<L, W> {
             sheet,
             copies: _,
             mut book,
+            has_hidden: _,
         } = self;
         book.audit(all);
         sheet.into_sheet()
     }
 
-    /// Makes a change for the session of a pass, which has then seen all that is published. Where the change is shown
-    /// at once, so is all else.
+    /// Makes a change for the session of a pass, which has then seen all that is published. A change that is shown at
+    /// once shows all waiting changes, too.
     ///
-    /// Refused as the sheet refuses the change, and when out of memory, where the change was to be appended; then
-    /// nothing is published.
+    /// Refused as the sheet refuses the change. Where the change was to be appended, it may also fail when out of
+    /// memory. After a refusal nothing is published.
     #[inline(always)]
     pub(crate) fn make<R: Threads + Sync, V: Wait, M: Ledger>(
         &mut self,
@@ -154,7 +174,9 @@ impl<L: DeskName, W: Wait + Drop> DeskState<L, W> {
             sheet,
             copies,
             book,
+            has_hidden,
         } = self;
+        *has_hidden = showing.hides();
         make_way(copies, showing);
         pass.catch_up(wait, copies.front());
         let _report = sheet.stage(rt, &Open, alloc, change, meter)?;
@@ -176,9 +198,10 @@ impl<L: DeskName, W: Wait + Drop> DeskState<L, W> {
         share(wait, alloc, &self.sheet.history()[number as usize - 1])
     }
 
-    /// The deltas of the history after a number, in order, at most so many.
+    /// Returns the deltas of the history after the number `from`, in order, at most `at_most` of them.
     ///
-    /// Refused where the history is shorter than the number, and when out of memory, where there are such deltas.
+    /// Refused where the history is shorter than `from`. Where there are such deltas, it may also fail when out of
+    /// memory.
     pub(crate) fn deltas_after(
         &self,
         alloc: Global,

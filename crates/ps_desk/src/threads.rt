@@ -11,12 +11,12 @@ use ps_sheet::staging_is_send;
 use std::sync::Wait;
 use std::sync::ledger::Book;
 
-/// What the bound says of a type.
+/// States what the bound `Send` says of a type.
 fn is_send<T: Send>()
     ensures { IsSend T.row }
 {}
 
-/// What lies under the lock of a desk may go to another thread.
+/// States that the data under a desk's lock may go to another thread.
 fn state_is_send<L: DeskName, W: Wait + Drop + Send>()
     ensures { IsSend (state.the_row L.row W.row (record { replica = L.replica })
         (record { book = L.book; opening = L.opening }) L.Ledger) }
@@ -26,9 +26,7 @@ fn state_is_send<L: DeskName, W: Wait + Drop + Send>()
     is_send::<Book<L>>();
 }
 
-/// A desk may be shared by threads. Who shares one between threads calls this first.
-///
-/// Cost: none.
+/// States that threads may share a desk. Call it before sharing one.
 pub fn desk_is_sync<L: DeskName, W: Wait + Drop + Send>()
     ensures { IsSync (desk.the_row L.row W.row (record { replica = L.replica })
         (record { book = L.book; opening = L.opening }) L.Ledger) }

@@ -15,17 +15,17 @@ failed_put (Ok zero) [] = 0
 failed_put (Ok zero) (b ∷ bs) = 1
 failed_put (Ok (suc count)) piece = 0
 
--- how many failures a handing on was: one where it returned an error
+-- how many failures a flush was: one where it returned an error
 abbrev pub failed_flush : {E : Type 0} → Result (Unit {0}) E → ℕ
 failed_flush (Ok done) = 0
 failed_flush (Err error) = 1
 
--- all the bytes were written, or at an error some of them, from the first on, and not all
+-- all the bytes were written; or at an error some of them, from the first on, and not all
 abbrev pub Sends : {E : Type 0} → Option (List ℕ) → Option (List ℕ) → Result (Unit {0}) E → List ℕ → Type 0
 Sends old new result bytes =
     MatchResult result (λ _. Appends old new bytes)
     (λ _. (count : ℕ) × (count < length bytes) × Appends old new (take count bytes))
 
--- whatever was taken, from these bytes to those, waits after what waited before
+-- the bytes taken, by which the first contents grew to the second, wait after those that waited before
 abbrev pub HoldsBack : Option (List ℕ) → Option (List ℕ) → List ℕ → List ℕ → Type 0
 HoldsBack old new waited waiting = (taken : List ℕ) × Appends old new taken × (waiting ≡ waited ++ taken)

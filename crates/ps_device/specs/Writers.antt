@@ -9,15 +9,15 @@ use Rattle.ps_device.specs.declared.stream.Writing.{Writing}
 abbrev pub writer_of : {W L : Type 0} → Writing W L → W
 writer_of sink = sink.writer
 
--- .. and of a console
+-- the writer of a console
 abbrev pub console_writer : {W L : Type 0} {G : Ghosts W} → ConsoleOutput W L G → W
 console_writer output = output.sink.writer
 
--- what was put and the writer was not given
+-- the bytes that were put and that the writer was not given
 abbrev pub console_waiting : {W L : Type 0} {G : Ghosts W} → ConsoleOutput W L G → List ℕ
 console_waiting output = drop output.sent output.bytes.items
 
--- what the writer has, where it shows that, and then what waits
+-- the bytes that the writer has, where it shows them, and then those that wait
 abbrev pub console_contents : {W L : Type 0} {G : Ghosts W} → (W → Option (List ℕ)) → ConsoleOutput W L G
     → Option (List ℕ)
 console_contents contents output = append_known (contents (console_writer output)) (console_waiting output)

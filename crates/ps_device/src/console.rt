@@ -1,7 +1,7 @@
-//! A console's output: bytes that wait in memory until they are handed on.
+//! A console's output: bytes that wait in memory until they are flushed.
 //!
-//! A batch of lines costs one write a piece of input, and a peer that waits for a reply has it, as a session flushes
-//! its sink before each read.
+//! A batch of lines costs one write for each piece of input. A peer that waits for a reply gets it, since a session
+//! flushes its sink before each read.
 ghost use Rattle.std.specs.Prelude.{◌≡◌, ◌<◌, ◌≤◌, ◌+◌, [], IfErr, IfOk, IsErr, IsOk, IsTrue, OnOk, drop, false};
 ghost use Rattle.std.specs.Prelude.{is_err, length, vec_capacity, vec_len};
 ghost use Rattle.std.specs.Io.KnownBytes.{Keeps, WriteAppends, append_known};
@@ -17,15 +17,15 @@ use std::alloc::Global;
 use std::io::Write;
 use std::sync::ledger::{Blank, Ledger};
 
-/// A sink over a writer, that keeps what is put until it is flushed, or until the room is full.
+/// A sink over a writer that holds back what is put until it is flushed, or until its room is full.
 ///
-/// What was put is what the writer was given, in order and whole, and then what waits. After a failure nothing more is
-/// written, and every further call fails. A flush flushes the writer too, which no clause shows.
+/// The bytes put are those that the writer was given, in order and whole, and then those that wait. After a failure
+/// nothing more is written, and every further call fails. A flush flushes the writer too, which no clause shows.
 #[derive(Drop)]
 pub struct ConsoleOutput<W: Write + Drop, L: Ledger> {
     /// the writer, and the count of all failures
     sink: Writing<W, L>,
-    /// the bytes put last, of which the writer has the first `sent` already
+    /// the bytes put last; the writer has the first `sent` of them already
     bytes: Vec<u8>,
     sent: usize,
     /// a call failed
@@ -39,9 +39,9 @@ pub struct ConsoleOutput<W: Write + Drop, L: Ledger> {
 impl<W: Write + Drop, L: Ledger> ConsoleOutput<W, L> {
     ghost use Rattle.ps_device.specs.Writers.{console_contents, console_waiting, console_writer, has_failed};
 
-    /// An output over this writer, with room for `PIECE_BYTES` bytes that wait. Refused out of memory.
+    /// Creates an output over this writer, with room for `PIECE_BYTES` waiting bytes. Refused only when out of memory.
     ///
-    /// Cost: O(1), one allocation.
+    /// Cost: one allocation.
     pub fn new(alloc: Global, writer: W, blank: Blank) -> Result<ConsoleOutput<W, L>, Refusal>
         requires { IsBlankOf blank L.name L.parts }
         ensures memory { IfErr result (λ refusal. refusal ≡ Refusal.Memory) }
@@ -61,14 +61,14 @@ impl<W: Write + Drop, L: Ledger> ConsoleOutput<W, L> {
         })
     }
 
-    /// Gives the writer what waits.
+    /// Gives the writer the bytes that wait.
     fn send(&mut self) -> Result<(), Failed>
         ensures same { Keeps (console_contents W.contents self.old) (console_contents W.contents self.new) }
         ensures sent { OnOk result (self.new.bytes.items ≡ []) }
         ensures counted { self.new.sink.failed ≡ self.old.sink.failed + failed_flush result }
         ensures stops { has_failed self.new ≡ is_err result }
     {
-        // what fails on the way leaves it so
+        // a failure on the way out leaves it stopped
         self.is_stopped = true;
         while self.sent < self.bytes.len() {
             let count = self.sink.put(&self.bytes[self.sent..])?;
@@ -83,7 +83,7 @@ impl<W: Write + Drop, L: Ledger> ConsoleOutput<W, L> {
         Ok(())
     }
 
-    /// Keeps bytes from the front of a piece, for which there may be no room; where the room is full, it is sent first.
+    /// Takes bytes from the front of a piece that may not fit; a full room is sent first.
     #[cold]
     #[inline(never)]
     fn put_front(&mut self, piece: &[u8]) -> Result<usize, Failed>
@@ -122,10 +122,11 @@ impl<W: Write + Drop, L: Ledger> Sink for ConsoleOutput<W, L> {
 
     ghost holds_back = { ⊥ };
 
-    /// Keeps bytes from the front of the piece; where the room is full, it is sent first. Some of a piece that isn't
-    /// empty is taken at Ok.
+    /// Takes bytes from the front of the piece, and sends the room first where it is full.
     ///
-    /// Cost: O(n) in the bytes taken, and no call of the writer while there is room.
+    /// At least one byte is taken at `Ok`, unless the piece is empty.
+    ///
+    /// Cost: linear in the bytes taken, with no call of the writer while there is room.
     #[inline]
     fn put(&mut self, piece: &[u8]) -> Result<usize, Failed>
         ensures within { IfOk result (λ count. count ≤ length piece.now) }
@@ -146,9 +147,9 @@ impl<W: Write + Drop, L: Ledger> Sink for ConsoleOutput<W, L> {
         Ok(piece.len())
     }
 
-    /// Gives the writer what waits, and flushes it.
+    /// Gives the writer the bytes that wait, and flushes it.
     ///
-    /// Cost: as many calls of the writer as it wants for the bytes, and one more.
+    /// Cost: as many calls of the writer as it needs for the bytes, and one more.
     fn flush(&mut self) -> Result<(), Failed>
         ensures same { Keeps (console_contents W.contents self.old) (console_contents W.contents self.new) }
         ensures flushed { OnOk result (console_waiting self.new ≡ []) }

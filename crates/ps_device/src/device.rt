@@ -9,9 +9,9 @@ pub struct Failed;
 
 /// Where bytes come from.
 ///
-/// Contracts see what remains, where the source shows it, how many calls failed so far, and at most how many more calls
-/// give bytes. A call fails where it returns an error. A count of 0 for a piece that isn't empty is the end of the
-/// input.
+/// Contracts see the bytes that remain, where the source shows them, and how many calls failed so far. They also see a
+/// bound on how many more calls give bytes. A call fails where it returns an error. A count of 0 for a piece that isn't
+/// empty is the end of the input.
 pub trait Source {
     /// The bytes that are still to come, where the source shows them.
     ghost remaining: { Self → Option (List ℕ) };
@@ -22,9 +22,9 @@ pub trait Source {
     /// At most how many more calls give bytes. It never rises.
     ghost left: { Self → ℕ };
 
-    /// Puts the next bytes at the front of the piece and returns how many.
+    /// Puts the next bytes at the front of the piece, and returns how many.
     ///
-    /// Cost: linear in the bytes that it returns, but for the time that the device takes.
+    /// Cost: linear in the bytes that it returns, besides the time of the device.
     fn take(&mut self, piece: &mut [u8]) -> Result<usize, Failed>
         ensures within { IfOk result (λ count. count ≤ length piece.new) }
         ensures bytes { ReadConsumes (remaining self.old) (remaining self.new) result piece.new }
@@ -35,13 +35,13 @@ pub trait Source {
 
 /// Where bytes go.
 ///
-/// Contracts see what was put so far, where the sink shows it, which of it still waits to be handed on, and how many
-/// calls failed so far. A call fails where it returns an error, or takes none of a piece that isn't empty.
+/// Contracts see the bytes put so far, where the sink shows them, which of them still wait, and how many calls failed
+/// so far. A call fails where it returns an error, or takes none of a piece that isn't empty.
 pub trait Sink {
     /// The bytes put so far, where the sink shows them; those that wait are the last of them.
     ghost contents: { Self → Option (List ℕ) };
 
-    /// The bytes that wait to be handed on.
+    /// The bytes that wait until they are flushed.
     ghost waiting: { Self → List ℕ };
 
     /// How many calls failed so far.
@@ -50,9 +50,9 @@ pub trait Sink {
     /// It holds back all that is put, until it is flushed.
     ghost holds_back: { Type 0 };
 
-    /// Takes bytes from the front of the piece and returns how many.
+    /// Takes bytes from the front of the piece, and returns how many.
     ///
-    /// Cost: linear in the bytes that it takes, but for the time that the device takes.
+    /// Cost: linear in the bytes that it takes, besides the time of the device.
     fn put(&mut self, piece: &[u8]) -> Result<usize, Failed>
         ensures within { IfOk result (λ count. count ≤ length piece.now) }
         ensures bytes { WriteAppends (contents self.old) (contents self.new) result piece.now }
@@ -60,9 +60,9 @@ pub trait Sink {
         ensures held { holds_back
             → HoldsBack (contents self.old) (contents self.new) (waiting self.old) (waiting self.new) };
 
-    /// Hands on all that waits. Nothing that was put is lost by it, also where it fails.
+    /// Sends all bytes that wait. No byte that was put is lost, even where it fails.
     ///
-    /// Cost: linear in the bytes that wait, but for the time that the device takes.
+    /// Cost: linear in the bytes that wait, besides the time of the device.
     fn flush(&mut self) -> Result<(), Failed>
         ensures same { Keeps (contents self.old) (contents self.new) }
         ensures flushed { OnOk result (waiting self.new ≡ []) }
@@ -71,7 +71,7 @@ pub trait Sink {
 
 /// Puts all of these bytes, or those before a failure of the sink.
 ///
-/// Cost: O(n) in the bytes, in as many calls as the sink wants.
+/// Cost: linear in the bytes, in as many calls as the sink needs.
 #[inline]
 pub fn put_all<K: Sink>(sink: &mut K, bytes: &[u8]) -> Result<(), Failed>
     ensures sent { Sends (K.contents sink.old) (K.contents sink.new) result bytes.now }
@@ -86,7 +86,7 @@ pub fn put_all<K: Sink>(sink: &mut K, bytes: &[u8]) -> Result<(), Failed>
         if count == 0 {
             return Err(Failed);
         }
-        // most sinks take all at once, and then there is nothing to go on with
+        // most sinks take all bytes at once, and then the loop need not go on
         if count == bytes.len() - start {
             return Ok(());
         }
@@ -95,9 +95,9 @@ pub fn put_all<K: Sink>(sink: &mut K, bytes: &[u8]) -> Result<(), Failed>
     Ok(())
 }
 
-/// Hands on all that waits.
+/// Sends all bytes that wait.
 ///
-/// Cost: that of a call of [`Sink::flush`].
+/// Cost: one call of [`Sink::flush`].
 pub fn hand_on<K: Sink>(sink: &mut K) -> Result<(), Failed>
     ensures same { Keeps (K.contents sink.old) (K.contents sink.new) }
     ensures flushed { OnOk result (K.waiting sink.new ≡ []) }

@@ -7,7 +7,7 @@ use ps_grid::GhostCount;
 use std::alloc::Global;
 use std::sync::ledger::{Blank, Ledger};
 
-/// A sink that keeps what is put. It fails out of memory, and then keeps what it had.
+/// A sink that stores what is put. Out of memory it fails, and then holds what it had.
 #[derive(Drop)]
 pub struct MemorySink<L: Ledger> {
     /// The bytes put so far.
@@ -17,9 +17,7 @@ pub struct MemorySink<L: Ledger> {
 }
 
 impl<L: Ledger> MemorySink<L> {
-    /// A sink with nothing in it.
-    ///
-    /// Cost: O(1), no memory.
+    /// Creates an empty sink. It takes no memory.
     pub fn new(alloc: Global, blank: Blank) -> MemorySink<L>
         requires { IsBlankOf blank L.name L.parts }
         ensures empty { result.bytes.items ≡ [] }

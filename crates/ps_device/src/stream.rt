@@ -18,9 +18,7 @@ pub struct Reading<R: Read + Drop, L: Ledger> {
 }
 
 impl<R: Read + Drop, L: Ledger> Reading<R, L> {
-    /// A source over this reader. It gives up, as a failure, after 2^64 - 1 reads.
-    ///
-    /// Cost: O(1), no memory.
+    /// Creates a source over this reader. It takes no memory, and fails for good after 2^64 - 1 reads.
     pub fn new(reader: R, blank: Blank) -> Reading<R, L>
         requires { IsBlankOf blank L.name L.parts }
         ensures calm { ⟦<Reading<R, L> as Source>⟧.failures result ≡ 0 }
@@ -55,8 +53,10 @@ impl<R: Read + Drop, L: Ledger> Source for Reading<R, L> {
     }
 }
 
-/// A sink over a writer: nothing waits. A write or a flush that a signal interrupted is tried again and is no failure;
-/// a write that takes none of a piece that isn't empty is one.
+/// A sink over a writer, in which nothing waits.
+///
+/// A write or a flush that a signal interrupted is tried again and is no failure. A write that takes none of a piece
+/// that isn't empty is a failure.
 #[derive(Drop)]
 pub struct Writing<W: Write + Drop, L: Ledger> {
     writer: W,
@@ -66,9 +66,7 @@ pub struct Writing<W: Write + Drop, L: Ledger> {
 }
 
 impl<W: Write + Drop, L: Ledger> Writing<W, L> {
-    /// A sink over this writer. It gives up, as a failure, after 2^64 - 1 writes and flushes.
-    ///
-    /// Cost: O(1), no memory.
+    /// Creates a sink over this writer. It takes no memory, and fails for good after 2^64 - 1 writes and flushes.
     pub fn new(writer: W, blank: Blank) -> Writing<W, L>
         requires { IsBlankOf blank L.name L.parts }
         ensures calm { ⟦<Writing<W, L> as Sink>⟧.failures result ≡ 0 }
@@ -82,7 +80,7 @@ impl<W: Write + Drop, L: Ledger> Writing<W, L> {
         }
     }
 
-    /// Counts a call that failed with no call of the writer.
+    /// Counts a failed call without a call of the writer.
     pub(crate) fn fail(&mut self)
         ensures writer { self.new.writer ≡ self.old.writer }
         ensures counted { self.new.failed ≡ self.old.failed + 1 }

@@ -30,8 +30,8 @@ cell_items (Text text) = []
 cell_items (Choice options) = Ok (pos (count_ones options)) ∷ []
 cell_items (Shows fault) = Err fault ∷ []
 
--- the cells that a range refers to, row by row. No range of a formula reaches past the grid, so the filter
--- leaves none out
+-- the cells that a range refers to, row by row; no range of a formula reaches past the grid, so the filter leaves none
+-- out
 abbrev pub range_cells : Area → List ℕ
 range_cells a = filter (is_inside a) (cells_of a)
 

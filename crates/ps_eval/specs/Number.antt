@@ -41,7 +41,7 @@ abbrev pub floored : ℤ → ℤ → ℤ
 floored a (pos b) = floored_by a b
 floored a (negsuc b) = floored_by (neg_ℤ a) (suc b)
 
--- what MOD leaves of a: it has the sign of b
+-- the remainder of a by b, as MOD has it: with the sign of b
 abbrev pub modulo : ℤ → ℤ → Number
 modulo a b = if is_zero b then Err DivZero else Ok (a -ℤ b *ℤ floored a b)
 

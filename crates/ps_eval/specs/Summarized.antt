@@ -11,14 +11,14 @@ use Rattle.ps_eval.specs.declared.truths.Truths.{Truths}
 use Rattle.ps_eval.specs.Number.{Number, is_zero, in_range}
 use Rattle.ps_eval.specs.Items.{numbers_in, first_fault, total}
 
--- the least of the numbers and of the greatest that there is in 64 bits, and the other way round
+-- the least of the numbers, or the greatest number of 64 bits where there is none, and the other way round
 abbrev pub lowest_of : List ℤ → ℤ
 lowest_of ns = fold int_min (pos (2 ^ 63 - 1)) ns
 
 abbrev pub highest_of : List ℤ → ℤ
 highest_of ns = fold int_max (negsuc (2 ^ 63 - 1)) ns
 
--- what is known of items: how many numbers there are, their sum, the lowest and the highest, and the first fault
+-- a summary of items: how many numbers there are, their sum, the lowest and the highest, and the first fault
 pub record AreKnown (items : List Number) (count : ℕ) (sum least greatest : ℤ) (fault : Option Fault) : Type 0 where
   pub counted : count ≡ length (numbers_in items)
   pub summed : sum ≡ total (numbers_in items)
@@ -33,12 +33,12 @@ Summarizes items s = AreKnown items s.count s.sum s.least s.greatest s.fault
 abbrev pub SummarizesArguments : List Number → ArgumentsSummary → Type 0
 SummarizesArguments items s = AreKnown items s.count s.sum s.least s.greatest s.fault
 
--- how many numbers it has taken
+-- how many numbers the summary has taken
 abbrev pub numbers_taken : Summary → ℕ
 numbers_taken s = s.count
 
--- whether an operand may go from among items, and what is known of the others stays known: it is no item, or a number
--- that is neither the least nor the greatest of them
+-- the operand may be taken from among the items, and the rest of the summary stays known: it is no item, or a number
+-- that is neither the least nor the greatest
 abbrev pub MayLeave : Operand → List Number → Type 0
 MayLeave operands.Empty items = ⊤
 MayLeave operands.Text items = ⊤

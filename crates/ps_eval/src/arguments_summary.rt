@@ -1,4 +1,4 @@
-//! What SUM, MIN, MAX and COUNT know of the items of all their arguments.
+//! A summary of the items of all arguments of SUM, MIN, MAX or COUNT.
 
 ghost use Rattle.std.specs.Prelude.{◌≡◌, ◌+◌, ◌*◌, ◌^◌, ◌<◌, ◌≤◌, List, [], ◌++◌, unsigned_abs};
 ghost use Rattle.ps_eval.specs.Number.{Number};
@@ -7,8 +7,9 @@ use crate::summary::Summary;
 use crate::total::Total;
 use ps_value::Fault;
 
-/// What is known of the items of the arguments so far. There may be so many ranges among them that their numbers would
-/// be too many for a `Summary`.
+/// A summary of the items of the arguments so far.
+///
+/// The arguments may have so many ranges that their numbers would be too many for a `Summary`.
 #[derive(Drop)]
 pub(crate) struct ArgumentsSummary {
     /// as in a `Summary`
@@ -24,7 +25,7 @@ impl ArgumentsSummary {
     ghost use Rattle.ps_eval.specs.Items.{count_of, max_of, min_of, sum_of};
     ghost use Rattle.ps_eval.specs.Summarized.{Summarizes, SummarizesArguments, numbers_taken};
 
-    /// Of no items.
+    /// Creates a summary of no items.
     pub(crate) fn new() -> ArgumentsSummary
         ensures { SummarizesArguments [] result }
     {
@@ -37,7 +38,7 @@ impl ArgumentsSummary {
         }
     }
 
-    /// All items of one more argument.
+    /// Adds all items of one more argument.
     #[inline]
     pub(crate) fn join(&mut self, argument: &Summary)
         requires room { self.old.count < 2 ^ 100 }
@@ -55,7 +56,7 @@ impl ArgumentsSummary {
         self.fault = self.fault.or(argument.fault);
     }
 
-    /// SUM of the items.
+    /// Returns SUM of the items.
     pub(crate) fn sum(&self) -> Result<i64, Fault>
         ensures { (items : List Number) → SummarizesArguments items self.now → result ≡ sum_of items }
     {
@@ -65,7 +66,7 @@ impl ArgumentsSummary {
         }
     }
 
-    /// MIN of the items.
+    /// Returns MIN of the items.
     pub(crate) fn min(&self) -> Result<i64, Fault>
         ensures { (items : List Number) → SummarizesArguments items self.now → result ≡ min_of items }
     {
@@ -76,7 +77,7 @@ impl ArgumentsSummary {
         }
     }
 
-    /// MAX of the items.
+    /// Returns MAX of the items.
     pub(crate) fn max(&self) -> Result<i64, Fault>
         ensures { (items : List Number) → SummarizesArguments items self.now → result ≡ max_of items }
     {
@@ -87,7 +88,7 @@ impl ArgumentsSummary {
         }
     }
 
-    /// COUNT of the items.
+    /// Returns COUNT of the items.
     pub(crate) fn count(&self) -> Result<i64, Fault>
         ensures { (items : List Number) → SummarizesArguments items self.now → result ≡ count_of items }
     {

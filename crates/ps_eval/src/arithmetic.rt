@@ -1,4 +1,4 @@
-//! What operators and functions make of numbers.
+//! The results of operators and functions on numbers.
 
 ghost use Rattle.std.specs.Prelude.{◌≡◌, ◌≢◌, pos, ◌+ℤ◌, ◌-ℤ◌, ◌*ℤ◌, MatchOption, int_rem};
 ghost use Rattle.std.specs.Ordering.{int_eq};
@@ -9,14 +9,14 @@ use ps_formula::Sign;
 use ps_tokens::Operator;
 use ps_value::Fault;
 
-/// A result, or the fault of a number out of range.
+/// The result, or the fault of a number out of range.
 fn ranged(exact_result: Option<i64>) -> Result<i64, Fault>
     ensures { MatchOption exact_result (result ≡ Err OutOfRange) (λ n. result ≡ Ok n) }
 {
     exact_result.ok_or(Fault::Num)
 }
 
-/// The value of a sign in front of a number.
+/// Returns the value of a sign in front of a number.
 pub(crate) fn prefixed(sign: Sign, a: i64) -> Result<i64, Fault>
     ensures { result ≡ prefixed sign a }
 {
@@ -26,7 +26,7 @@ pub(crate) fn prefixed(sign: Sign, a: i64) -> Result<i64, Fault>
     }
 }
 
-/// The value of an operator between two numbers.
+/// Returns the value of an operator between two numbers.
 pub(crate) fn operation(operator: Operator, a: i64, b: i64) -> Result<i64, Fault>
     ensures { result ≡ operation operator a b }
 {
@@ -43,14 +43,14 @@ pub(crate) fn operation(operator: Operator, a: i64, b: i64) -> Result<i64, Fault
     }
 }
 
-/// 1 where it holds, else 0.
+/// Returns 1 where the condition holds, else 0.
 pub(crate) fn truth(holds: bool) -> i64
     ensures { result ≡ truth holds }
 {
     if holds { 1 } else { 0 }
 }
 
-/// MOD: what is left of `a` after whole `b`s, with the sign of `b`.
+/// Returns MOD: the remainder of `a` by `b`, with the sign of `b`.
 pub(crate) fn modulo(a: i64, b: i64) -> Result<i64, Fault>
     ensures { result ≡ modulo a b }
 {
@@ -60,7 +60,7 @@ pub(crate) fn modulo(a: i64, b: i64) -> Result<i64, Fault>
     Ok(rest_of(a, b))
 }
 
-/// What is left of `a` after whole `b`s: of the sign of `b`.
+/// The remainder of `a` by `b`, with the sign of `b`.
 fn rest_of(a: i64, b: i64) -> i64
     requires { b ≢ pos 0 }
     ensures { result ≡ a -ℤ b *ℤ floored a b }
@@ -73,7 +73,7 @@ fn rest_of(a: i64, b: i64) -> i64
     }
 }
 
-/// What is left of `a` after whole `b`s by a division that is cut towards zero: of the sign of `a`.
+/// The remainder of a division that is cut towards zero, with the sign of `a`.
 fn cut_rest_of(a: i64, b: i64) -> i64
     requires { b ≢ pos 0 }
     ensures { result ≡ int_rem a b }
@@ -81,7 +81,7 @@ fn cut_rest_of(a: i64, b: i64) -> i64
     a.wrapping_rem(b)
 }
 
-/// QUOTIENT: `a` divided by `b`, cut towards zero.
+/// Returns QUOTIENT: `a` divided by `b`, cut towards zero.
 pub(crate) fn quotient(a: i64, b: i64) -> Result<i64, Fault>
     ensures { result ≡ quotient a b }
 {
@@ -92,7 +92,7 @@ pub(crate) fn quotient(a: i64, b: i64) -> Result<i64, Fault>
     }
 }
 
-/// ABS: the magnitude.
+/// Returns ABS: the magnitude.
 pub(crate) fn absolute(a: i64) -> Result<i64, Fault>
     ensures { result ≡ absolute a }
 {

@@ -9,24 +9,22 @@ use crate::summary::Summary;
 use ps_grid::{Cell, Rect};
 use ps_value::{Operand, Value};
 
-/// Whoever knows what each cell shows.
+/// A source of the values that cells show.
 pub trait Look {
     ghost use Rattle.ps_value.specs.declared.value.Value.{Value as CellValue};
 
     /// What each cell shows.
     ghost value_at: { Self → ℕ → CellValue };
 
-    /// What a cell shows.
-    ///
-    /// Cost: constant.
+    /// Returns the value that a cell shows.
     fn at(&self, cell: Cell) -> Value
         ensures { result ≡ value_at self.now cell };
 
-    /// What evaluation reads of what a cell shows.
+    /// Returns what evaluation reads of the value that a cell shows.
     fn operand(&self, cell: Cell) -> Operand
         ensures { result ≡ operand_of (value_at self.now cell) };
 
-    /// What SUM, MIN, MAX and COUNT need to know of the items of a range, cell by cell and row by row.
+    /// Returns the summary of the items of a range, cell by cell and row by row.
     ///
     /// Cost: the cells of the range.
     fn summary_by_cells(&self, rect: Rect) -> Summary
@@ -39,8 +37,7 @@ pub trait Look {
         summary
     }
 
-    /// What SUM, MIN, MAX and COUNT need to know of the items of a range. Whoever keeps what the cells show in a table
-    /// may walk that in an order of its own.
+    /// Returns the summary of the items of a range. A table of values may be walked in an order of its own.
     ///
     /// Cost: the cells of the range.
     fn summary(&self, rect: Rect) -> Summary

@@ -9,7 +9,7 @@ use std::sync::ledger::{Blank, Ledger};
 
 /// A count of evaluations that contracts see. It takes no bytes and has no greatest value.
 ///
-/// It rises by evaluations alone: no crate but this one can tick it.
+/// Only evaluations make it rise: no other crate can tick it.
 #[derive(Drop)]
 pub struct Meter<L: Ledger> {
     ticks: GhostCount<L>,
@@ -23,7 +23,7 @@ impl<L: Ledger> Model for Meter<L> {
     ghost view = { λ m. m.ticks };
 }
 
-/// What a meter had counted when it ended. Only a meter makes it, and a thread may hand it to another.
+/// The count of a meter that ended. Only a meter makes it, and one thread may pass it to another.
 #[derive(Drop)]
 pub struct Counted {
     ticks: u64,
@@ -38,9 +38,7 @@ impl Model for Counted {
 }
 
 impl<L: Ledger> Meter<L> {
-    /// A meter that has counted nothing yet, over a new ledger.
-    ///
-    /// Cost: none.
+    /// Creates a meter with the count 0, over a new ledger.
     pub fn new(blank: Blank) -> Meter<L>
         requires { IsBlankOf blank L.name L.parts }
         ensures { result ≡ 0 }
@@ -50,9 +48,7 @@ impl<L: Ledger> Meter<L> {
         }
     }
 
-    /// Ends the meter and hands on what it has counted, which the caller knows.
-    ///
-    /// Cost: none.
+    /// Ends the meter and returns its count, which the caller knows.
     pub fn finish(self, ticks: u64) -> Counted
         requires { ticks ≡ self }
         ensures { result ≡ self }
@@ -60,9 +56,7 @@ impl<L: Ledger> Meter<L> {
         Counted { ticks }
     }
 
-    /// Adds what another meter has counted, as a worker's.
-    ///
-    /// Cost: none.
+    /// Adds the count of another meter, such as a worker's.
     pub fn add(&mut self, counted: Counted)
         ensures { self.new ≡ self.old + counted }
     {
@@ -70,8 +64,6 @@ impl<L: Ledger> Meter<L> {
     }
 
     /// Counts one more evaluation.
-    ///
-    /// Cost: none.
     pub(crate) fn tick(&mut self)
         ensures { self.new ≡ self.old + 1 }
     {
@@ -80,9 +72,7 @@ impl<L: Ledger> Meter<L> {
 }
 
 impl Counted {
-    /// The two counts together.
-    ///
-    /// Cost: none.
+    /// Returns the sum of the two counts.
     pub fn with(self, other: Counted) -> Counted
         requires { self + other < 2 ^ 64 }
         ensures { result ≡ self + other }

@@ -1,4 +1,4 @@
-//! What SUM, MIN, MAX and COUNT need to know of some items, as those of a range.
+//! A summary of some items, as SUM, MIN, MAX and COUNT need it.
 
 ghost use Rattle.std.specs.Prelude.{◌≡◌, ◌↔◌, ◌+◌, ◌*◌, ◌^◌, ◌<◌, ◌≤◌, ◌<ℤ◌, List, [], ◌∷◌, ◌++◌, unsigned_abs};
 ghost use Rattle.std.specs.Prelude.{is_some, IsTrue, IsFalse};
@@ -6,14 +6,16 @@ ghost use Rattle.ps_eval.specs.Number.{Number};
 
 use ps_value::{Fault, Operand};
 
-/// What is known of the items so far: how many numbers there are, their exact sum, the least and the greatest of them,
-/// and the first fault. A contract says by `Summarizes` of which items.
+/// A summary of some items: how many numbers there are, their exact sum, the least and the greatest, and the first
+/// fault.
+///
+/// A contract names the items by `Summarizes`.
 #[derive(Drop)]
 pub struct Summary {
-    /// the sum of the numbers, which is first since it needs sixteen bytes' alignment, and how many there are
+    /// the sum of the numbers, first since it is aligned to sixteen bytes, and how many there are
     pub(crate) sum: i128,
     pub(crate) count: u64,
-    /// the least and the greatest number; where there is none, the greatest and the least that there are
+    /// the least and the greatest number; without numbers the greatest and the least of all 64-bit numbers
     pub(crate) least: i64,
     pub(crate) greatest: i64,
     /// the first fault
@@ -26,9 +28,7 @@ impl Summary {
     ghost use Rattle.ps_eval.specs.Inside.Operands.{items_from};
     ghost use Rattle.ps_eval.specs.Summarized.{MayLeave, Summarizes, numbers_taken};
 
-    /// Of no items.
-    ///
-    /// Cost: constant.
+    /// Creates a summary of no items.
     pub fn new() -> Summary
         ensures { Summarizes [] result }
     {
@@ -41,7 +41,7 @@ impl Summary {
         }
     }
 
-    /// One more number.
+    /// Adds one number.
     #[inline(always)]
     fn take_number(&mut self, number: i64)
         requires { self.old.count < 2 ^ 60 }
@@ -56,7 +56,7 @@ impl Summary {
         self.sum += i128::from(number);
     }
 
-    /// One more fault: the first one stays.
+    /// Adds one fault; the first one stays.
     fn take_fault(&mut self, fault: Fault)
         ensures items { (items : List Number)
             → Summarizes items self.old
@@ -66,9 +66,7 @@ impl Summary {
         self.fault = self.fault.or(Some(fault));
     }
 
-    /// The operand of one more cell, which may be no item.
-    ///
-    /// Cost: constant.
+    /// Adds the operand of one cell, which may be no item.
     #[inline(always)]
     pub fn take_cell(&mut self, operand: Operand)
         requires { numbers_taken self.old < 2 ^ 60 }
@@ -84,9 +82,7 @@ impl Summary {
         }
     }
 
-    /// All items of another summary after those of this one.
-    ///
-    /// Cost: constant.
+    /// Adds all items of another summary after those of this one.
     #[inline]
     pub fn join(&mut self, other: &Summary)
         requires room { numbers_taken self.old < 2 ^ 60 }
@@ -104,7 +100,7 @@ impl Summary {
         self.fault = self.fault.or(other.fault);
     }
 
-    /// Whether a number is more than the least and less than the greatest.
+    /// Whether a number lies strictly between the least and the greatest.
     #[inline(always)]
     fn lies_within(&self, number: i64) -> bool
         ensures { IsTrue result ↔ ((self.now.least <ℤ number) × (number <ℤ self.now.greatest)) }
@@ -112,7 +108,7 @@ impl Summary {
         self.least < number && number < self.greatest
     }
 
-    /// One of the numbers less, where it is neither the least nor the greatest.
+    /// Leaves out one of the numbers that is neither the least nor the greatest.
     #[inline(always)]
     fn leave_out(&mut self, number: i64)
         requires among { (front : List Number) × (back : List Number)
@@ -128,10 +124,9 @@ impl Summary {
         self.sum -= i128::from(number);
     }
 
-    /// Takes the new operand of a cell among the items in place of the old one, and says whether it could. It can't
-    /// where there is a fault, nor where the number that goes is the least or the greatest: then nothing is changed.
+    /// Replaces the operand `old` of a cell among the items by `new`, and returns whether it could.
     ///
-    /// Cost: constant.
+    /// It can't where there is a fault, nor where `old` is the least or the greatest number. Then nothing is changed.
     #[inline]
     pub fn exchange(&mut self, old: Operand, new: Operand) -> bool
         requires among { (front : List Number) × (back : List Number)
@@ -159,9 +154,7 @@ impl Summary {
         true
     }
 
-    /// Whether there is a fault among the items.
-    ///
-    /// Cost: constant.
+    /// Returns whether there is a fault among the items.
     #[inline]
     pub fn has_fault(&self) -> bool
         ensures { (items : List Number) → Summarizes items self.now → result ≡ is_some (first_fault items) }
@@ -169,7 +162,7 @@ impl Summary {
         self.fault.is_some()
     }
 
-    /// Of one item.
+    /// Creates a summary of one item.
     pub(crate) fn of_item(item: Result<i64, Fault>) -> Summary
         ensures items { Summarizes (item ∷ []) result }
         ensures count { numbers_taken result ≤ 1 }
@@ -182,7 +175,7 @@ impl Summary {
         summary
     }
 
-    /// Of the operand of one cell, which may be no item.
+    /// Creates a summary of the operand of one cell, which may be no item.
     pub(crate) fn of_cell(operand: Operand) -> Summary
         ensures items { Summarizes (items_from operand) result }
         ensures count { numbers_taken result ≤ 1 }

@@ -6,7 +6,7 @@ ghost use Rattle.ps_eval.specs.Number.{exact};
 use ps_value::Fault;
 use std::marker::Model;
 
-/// How far apart two numbers are that differ by one turn, and half of that.
+/// One turn and half of one: numbers with the same rest differ by whole turns.
 const TURN: i128 = 0x4000_0000_0000_0000_0000_0000_0000_0000;
 
 const HALF: i128 = 0x2000_0000_0000_0000_0000_0000_0000_0000;
@@ -16,12 +16,12 @@ const GREATEST: i128 = 0x7fff_ffff_ffff_ffff;
 
 const LEAST: i128 = -0x8000_0000_0000_0000;
 
-/// A whole number as far as `requires` lets it grow: a rest, and how often it has gone round.
+/// A whole number, as a rest and a count of turns. It may grow up to the bound in `requires`.
 #[derive(Drop)]
 pub(crate) struct Total {
-    /// from minus half a turn up to half a turn, without the latter
+    /// from minus half a turn up to, and without, half a turn
     rest: i128,
-    /// how often it has gone round
+    /// how many whole turns come on top
     turns: i128,
 }
 
@@ -36,14 +36,14 @@ impl Model for Total {
 }
 
 impl Total {
-    /// The sum of nothing, 0.
+    /// Creates the sum of nothing, 0.
     pub(crate) fn new() -> Total
         ensures { result ≡ pos 0 }
     {
         Total { rest: 0, turns: 0 }
     }
 
-    /// Adds a number. Hardly any addition goes round.
+    /// Adds a number. Hardly any addition passes half a turn.
     #[inline]
     pub(crate) fn add(&mut self, number: i128)
         requires room { unsigned_abs self.old < 2 ^ 180 }
@@ -62,7 +62,7 @@ impl Total {
         }
     }
 
-    /// The number, or the fault of a number out of range.
+    /// Returns the number, or the fault of a number out of range.
     pub(crate) fn value(&self) -> Result<i64, Fault>
         ensures { result ≡ exact self.now }
     {

@@ -22,7 +22,7 @@ use ps_tokens::Function;
 use ps_value::{Fault, Operand, Value};
 use std::sync::ledger::Ledger;
 
-/// The value of a formula where each cell shows what `look` says, with one tick of the meter. It takes no memory.
+/// Returns the value of a formula where each cell shows what `look` says, and ticks the meter once. It takes no memory.
 ///
 /// It is part of the public interface. The workers of a level call `eval_number`, which says that the value is a number
 /// or a fault.
@@ -38,8 +38,9 @@ pub fn eval<K: Look, L: Ledger>(formula: &Formula, look: &K, meter: &mut Meter<L
     }
 }
 
-/// The number of a formula where each cell shows what `look` says, or the fault in its place, with one tick of the
-/// meter. It takes no memory.
+/// Returns the number of a formula where each cell shows what `look` says, or the fault in its place.
+///
+/// It ticks the meter once, and takes no memory.
 ///
 /// Cost: the nodes of the tree, and the cells of its ranges.
 pub fn eval_number<K: Look, L: Ledger>(
@@ -73,7 +74,7 @@ fn number<K: Look>(tree: &Expr, look: &K) -> Result<i64, Fault>
     }
 }
 
-/// The number of a side of an operator: that of a numeral or a reference without a call.
+/// The number of a side of an operator. A numeral and a reference need no further call.
 #[cycle(numbers)]
 #[inline(always)]
 fn side<K: Look>(tree: &Expr, look: &K) -> Result<i64, Fault>
@@ -99,7 +100,7 @@ fn single(operand: Operand) -> Result<i64, Fault>
     }
 }
 
-/// The number of a call. One that the grammar doesn't have, with too few or too many arguments, is no number.
+/// The number of a call. A call that the grammar doesn't have, with too few or too many arguments, is no number.
 #[cycle(numbers)]
 fn value_of_call<K: Look>(
     function: Function,
@@ -221,7 +222,7 @@ fn operand<K: Look>(argument: &Argument, look: &K) -> Result<i64, Fault>
     }
 }
 
-/// What is known of the values of the arguments.
+/// The summary of the values of the arguments.
 #[cycle(numbers)]
 fn operands<K: Look>(arguments: &[Argument], look: &K) -> Truths
     ensures { Judges (values_of (in_row (map item_of arguments.now)) (K.value_at look.now)) result }
@@ -233,7 +234,7 @@ fn operands<K: Look>(arguments: &[Argument], look: &K) -> Truths
     truths
 }
 
-/// What is known of the items of the arguments.
+/// The summary of the items of the arguments.
 #[cycle(numbers)]
 fn items<K: Look>(arguments: &[Argument], look: &K) -> ArgumentsSummary
     ensures { SummarizesArguments (items_of (in_row (map item_of arguments.now)) (K.value_at look.now)) result }
@@ -245,7 +246,7 @@ fn items<K: Look>(arguments: &[Argument], look: &K) -> ArgumentsSummary
     summary
 }
 
-/// What is known of the items of one argument.
+/// The summary of the items of one argument.
 #[cycle(numbers)]
 fn items_of_one<K: Look>(argument: &Argument, look: &K) -> Summary
     ensures items { Summarizes (items_in (item_of argument.now) (K.value_at look.now)) result }
@@ -276,7 +277,7 @@ fn cell_alone(tree: &Expr) -> Option<Cell>
     }
 }
 
-/// What is known of the items of a range.
+/// The summary of the items of a range.
 fn items_of_range<K: Look>(rect: Rect, look: &K) -> Summary
     ensures items { Summarizes (range_items (K.value_at look.now) rect) result }
     ensures count { numbers_taken result ≤ CELLS }

@@ -1,4 +1,4 @@
-//! What AND and OR need to know of their arguments.
+//! A summary of the arguments of AND and OR.
 
 ghost use Rattle.std.specs.Prelude.{◌≡◌, ◌&&◌, ◌||◌, not, List, [], ◌∷◌, ◌++◌};
 ghost use Rattle.ps_eval.specs.Number.{is_zero, Number};
@@ -6,10 +6,10 @@ ghost use Rattle.ps_eval.specs.Number.{is_zero, Number};
 use crate::arithmetic::truth;
 use ps_value::Fault;
 
-/// What is known of the values so far.
+/// A summary of the values so far.
 #[derive(Drop)]
 pub(crate) struct Truths {
-    // whether no number is 0, and whether one isn't
+    // whether no number is 0, and whether some number isn't 0
     all: bool,
     any: bool,
     // the first fault
@@ -20,7 +20,7 @@ impl Truths {
     ghost use Rattle.ps_eval.specs.Items.{all_of, any_of};
     ghost use Rattle.ps_eval.specs.Summarized.{Judges};
 
-    /// Of no values.
+    /// Creates a summary of no values.
     pub(crate) fn new() -> Truths
         ensures { Judges [] result }
     {
@@ -31,7 +31,7 @@ impl Truths {
         }
     }
 
-    /// One more value.
+    /// Adds one value.
     pub(crate) fn take(&mut self, value: Result<i64, Fault>)
         ensures { (values : List Number) → Judges values self.old → Judges (values ++ value ∷ []) self.new }
     {
@@ -41,7 +41,7 @@ impl Truths {
         }
     }
 
-    /// One more number.
+    /// Adds one number.
     fn take_number(&mut self, number: i64)
         ensures { (values : List Number) → Judges values self.old → Judges (values ++ Ok number ∷ []) self.new }
     {
@@ -49,14 +49,14 @@ impl Truths {
         self.any = some(self.any, number);
     }
 
-    /// One more fault: the first one stays.
+    /// Adds one fault; the first one stays.
     fn take_fault(&mut self, fault: Fault)
         ensures { (values : List Number) → Judges values self.old → Judges (values ++ Err fault ∷ []) self.new }
     {
         self.fault = self.fault.or(Some(fault));
     }
 
-    /// AND of the values.
+    /// Returns AND of the values.
     pub(crate) fn all(&self) -> Result<i64, Fault>
         ensures { (values : List Number) → Judges values self.now → result ≡ all_of values }
     {
@@ -66,7 +66,7 @@ impl Truths {
         }
     }
 
-    /// OR of the values.
+    /// Returns OR of the values.
     pub(crate) fn any(&self) -> Result<i64, Fault>
         ensures { (values : List Number) → Judges values self.now → result ≡ any_of values }
     {
@@ -77,14 +77,14 @@ impl Truths {
     }
 }
 
-/// Whether none is 0 where there is one more.
+/// Whether no number is 0, with one more number.
 fn every(all: bool, number: i64) -> bool
     ensures { result ≡ (all && not (is_zero number)) }
 {
     all && number != 0
 }
 
-/// Whether one isn't 0 where there is one more.
+/// Whether some number isn't 0, with one more number.
 fn some(any: bool, number: i64) -> bool
     ensures { result ≡ (any || not (is_zero number)) }
 {

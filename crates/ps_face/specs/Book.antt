@@ -1,10 +1,10 @@
--- The book that holds the list of patches, and what adding to it tells.
+-- The book that holds the list of patches, and what adding to it means.
 use Rattle.std.specs.Prelude.{ℕ, ◌≡◌, ◌==◌, true, List, [], ◌∷◌, ◌++◌, length}
 use Rattle.std.specs.Bool.{OnTrue}
 use Rattle.logbook.specs.Pages.{Cell, Step, View, Book, Named}
 use Rattle.ps_face.specs.declared.patch.Note.{Note}
 
--- the first word is the length of the list. A book has two words, of which this one leaves the second at 0
+-- the first word is the length of the list. A book has two words; this one leaves the second at 0
 pub record CountsPatches (cells : List Cell) (log : List Note) : Type 0 where
   pub words : cells ≡ (length log, true) ∷ (0, true) ∷ []
 

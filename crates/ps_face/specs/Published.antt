@@ -37,11 +37,11 @@ pub record MayShow (h : List Entries) (b : Book) (x : Copy) (turns : List Turn) 
   pub later : IsPrefix x.list (fold turned x turns).list
   pub stands : CopyStands h b (fold turned x turns)
 
--- THE WRITER STANDS: what holds of the writer between two calls, where x is the copy that readers take, `told` the
--- writer's beginning of the list, `word` the book of its word, `turns` what lies in the queue of the copies, `waiting`
--- the patches that wait, and `appended` what is pending. The copy stands, and nothing lies in the queue; the copy may
--- be shown with all that wait, after which it stands for the whole list; fewer patches wait than are shown at once; and
--- each appended patch may come next
+-- THE WRITER STANDS: what holds of the writer between two calls. x is the copy that readers take, `told` the writer's
+-- beginning of the list, and `word` the book of its word. `turns` is what lies in the queue of the copies, `waiting`
+-- the patches that wait, and `appended` what is pending. The copy stands, and nothing lies in the queue. The copy may
+-- be shown with all that wait, and then stands for the whole list. Fewer patches wait than are shown at once, and each
+-- appended patch may come next
 pub record WriterStands (h : List Entries) (b : Book) (x : Copy) (told : Told) (word : Book) (turns : List Turn)
     (waiting : Gathered) (appended : List Note) : Type 0 where
   pub stands : CopyStands h b x

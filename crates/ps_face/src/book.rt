@@ -1,7 +1,7 @@
 //! The book that has the published list, and a beginning of the list as a token.
 //!
-//! The list exists in contracts alone. What lies in memory is a word with its length, which the writer moves; a token
-//! of no bytes for a beginning that was seen; and that beginning's length beside it.
+//! The list exists in contracts alone. Three things lie in memory: a word with the list's length, which the writer
+//! moves; a token of no bytes for a beginning that was seen; and that beginning's length.
 
 ghost use Rattle.std.specs.Prelude.{◌≡◌, ◌<◌, ◌≤◌, ◌++◌, ◌∷◌, [], length, MatchBool};
 ghost use mathlib.Core.List.{IsPrefix};
@@ -10,7 +10,7 @@ use crate::patch::{Note, Patch};
 use logbook::{Gain, Offer, Plain, Play, Rule, Seen, Start, Word};
 use std::marker::Model;
 
-/// The longest list. No run comes to it.
+/// The longest list. No run gets there.
 const LONGEST: u64 = 1 << 62;
 
 /// The rule of the book: its word is the length of the list.
@@ -60,7 +60,7 @@ impl Plain<Patch<'_>, Note, u64> for Add {
     ghost state = { λ patch. None };
 }
 
-/// A book with an empty list, which no copies have yet. A contract sees it as the book.
+/// A book with an empty list, which has no copies yet. A contract sees it as the book.
 #[derive(Drop)]
 pub struct NewBook {
     /// the length of the list
@@ -82,9 +82,7 @@ impl Model for NewBook {
 }
 
 impl NewBook {
-    /// A new book with an empty list.
-    ///
-    /// Cost: constant, no memory.
+    /// Creates a new book with an empty list. It takes no memory.
     pub fn new() -> NewBook {
         let (seen, mut first, _second) = Seen::open(Start::alone(), 0, 0);
         NewBook {
@@ -146,9 +144,7 @@ impl Model for BookPrefix {
 }
 
 impl BookPrefix {
-    /// The same beginning once more.
-    ///
-    /// Cost: constant, no memory.
+    /// Returns another token for the same beginning. It takes no memory.
     pub fn again(&self) -> BookPrefix
         ensures { result ≡ self.now }
     {
@@ -158,9 +154,7 @@ impl BookPrefix {
         }
     }
 
-    /// Whether the other beginning of the list is as long or longer. Then it begins with this one.
-    ///
-    /// Cost: constant.
+    /// Returns whether the other beginning of the list is as long or longer. Then it begins with this one.
     pub fn begins(&self, other: &BookPrefix) -> bool
         requires book { self.now.book ≡ other.now.book }
         ensures { MatchBool result
@@ -175,8 +169,8 @@ impl BookPrefix {
         true
     }
 
-    /// Adds a patch where this is the whole list, which only its writer can know. It may answer no, and then nothing
-    /// was added.
+    /// Adds a patch if this is the whole list, which only its writer can know. If the result is false, nothing was
+    /// added.
     pub(crate) fn add(&mut self, head: &Head, patch: &Patch<'_>) -> bool
         requires book { head.now ≡ self.old.book }
         ensures { MatchBool result

@@ -11,7 +11,7 @@ use ps_shown::{Kept, Shown};
 use std::alloc::Global;
 use std::slice;
 
-/// Each cell whose shown value changes, with what it shows then. Most patches change one cell; that takes no memory.
+/// Each cell whose shown value changes, with the new value. Most patches change one cell; that takes no memory.
 #[derive(Drop)]
 pub(crate) enum CellChanges {
     /// One cell shows another value.
@@ -55,8 +55,8 @@ impl CellChanges {
         }
     }
 
-    /// Puts copies, where a text gets one more owner; or nothing, where one has as many as can be counted. The list has
-    /// room for the changes; what it holds is of no use.
+    /// Puts copies, with one more owner for each text. Puts nothing if a text has as many owners as can be counted.
+    /// `room` has space for the changes; what it holds is ignored.
     pub(crate) fn put_copies(
         &self,
         alloc: Global,
@@ -96,7 +96,7 @@ fn gather_all(changes: Vec<(Cell, Kept)>, list: &mut Vec<(Cell, Kept)>)
     }
 }
 
-/// Lists copies of changes, where a text gets one more owner. The list has room for them.
+/// Lists copies of changes, with one more owner for each text. The list has room for them.
 fn copy_all(
     alloc: Global,
     changes: &[(Cell, Kept)],
@@ -115,7 +115,7 @@ fn copy_all(
     Ok(())
 }
 
-/// Puts what the cells show from now on, and leaves nothing in the list but its room.
+/// Puts what the cells show from now on, and empties the list.
 fn put_all(shown: &mut Shown, changes: &mut Vec<(Cell, Kept)>)
     ensures shown { shown_at shown.new ≡ overlaid (shown_at shown.old) (map valued changes.old.items) }
     ensures room { vec_capacity changes.new ≡ vec_capacity changes.old }

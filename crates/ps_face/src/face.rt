@@ -17,13 +17,13 @@ use ps_value::Value;
 use std::alloc::{AllocError, Global};
 use std::marker::Model;
 
-/// What all cells show and the version, with the beginning of the published list that they come from.
+/// What all cells show, and the version, with the beginning of the published list that they come from.
 #[derive(Drop)]
 pub struct Face {
     version: u64,
     shown: Shown,
     front: BookPrefix,
-    /// copies of what the cells of a patch are to show, while it is applied; there is room for all cells
+    /// copies of a patch's changes, while it is applied; there is room for all cells
     room: Vec<(Cell, Kept)>,
     alloc: Global,
 }
@@ -51,8 +51,8 @@ impl Model for Face {
     ghost invariant = { λ f. CELLS ≤ vec_capacity f.room };
 }
 
-/// What patches that follow each other do to a copy, with the beginning of the list that ends with the last of them. It
-/// has no more changes than there are cells.
+/// What patches that follow each other change in a copy, with the beginning of the list that ends with the last of
+/// them. It has no more changes than there are cells.
 #[derive(Drop)]
 pub struct Operation {
     pub(crate) version: u64,
@@ -84,7 +84,8 @@ impl Model for Operation {
 }
 
 impl Operation {
-    /// What patches with these changes do, of which the last has this number and ends the list of the front.
+    /// The operation of patches with these changes. The last of them has number `version`, and ends the list of the
+    /// front.
     pub(crate) fn new(version: u64, changes: CellChanges, front: BookPrefix) -> Operation
         requires few { length (entries_of changes) ≤ CELLS }
         ensures { result ≡ record {
@@ -101,7 +102,7 @@ impl Operation {
         }
     }
 
-    /// What changes nothing in a copy of this version and this list.
+    /// An operation that changes nothing in a copy of this version and this list.
     pub(crate) fn idle(alloc: Global, version: u64, front: BookPrefix) -> Operation
         ensures { result ≡ record { book = front.book; list = front.list; version = version; changes = [] } }
     {
@@ -114,9 +115,9 @@ impl Operation {
 }
 
 impl Face {
-    /// A copy of a table of shown values, with the room that applying a patch needs. Refused only when out of memory.
+    /// A copy of a table of shown values, with the room that applying a patch needs. Fails only when out of memory.
     ///
-    /// Cost: that of copying the table, and an allocation of as much, of which nothing is written yet.
+    /// Cost: that of copying the table, and an allocation of the same size, where nothing is written yet.
     pub(crate) fn new(
         alloc: Global,
         version: u64,
@@ -140,18 +141,14 @@ impl Face {
         })
     }
 
-    /// The length of the history.
-    ///
-    /// Cost: constant.
+    /// Returns the length of the history.
     pub fn version(&self) -> u64
         ensures version { result ≡ self.now.version }
     {
         self.version
     }
 
-    /// What a cell shows.
-    ///
-    /// Cost: constant.
+    /// Returns what a cell shows.
     pub fn at(&self, cell: Cell) -> Value
         ensures value { result ≡ slice_index_or self.now.values cell Empty }
     {
@@ -160,16 +157,14 @@ impl Face {
         self.shown.at(cell)
     }
 
-    /// The beginning of the published list that the values come from.
-    ///
-    /// Cost: constant.
+    /// Returns the beginning of the published list that the values come from.
     pub fn front(&self) -> &BookPrefix
         ensures front { result.now ≡ record { book = self.now.book; list = self.now.list } }
     {
         &self.front
     }
 
-    /// Applies a patch whole, or does nothing, where a text has as many owners as can be counted. It takes no memory.
+    /// Applies a patch whole, or does nothing if a text has as many owners as can be counted. It takes no memory.
     fn apply(&mut self, operation: &Operation) -> Result<(), Refusal>
         ensures { MatchResult result (λ _. self.new ≡ turned self.old operation.now) (λ _. self.new ≡ self.old) }
     {
@@ -181,7 +176,7 @@ impl Face {
         Ok(())
     }
 
-    /// Applies a patch that the other copy has already, so that nobody else needs it. It takes no memory.
+    /// Applies a patch that the other copy already has, so that its changes can be moved. It takes no memory.
     fn take_in(&mut self, operation: Operation)
         ensures { self.new ≡ turned self.old operation }
     {

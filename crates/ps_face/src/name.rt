@@ -3,8 +3,8 @@
 use std::marker::Brand;
 use std::sync::ledger::Ledger;
 
-/// Names a pair of published copies: the book of their list, and the history that they were opened with. It has no
-/// function and no field.
+/// The name of a pair of published copies: the book of their list, and the history that they were opened with. It has
+/// no function and no field.
 pub trait Named: Ledger {
     ghost use Rattle.std.specs.Prelude.{List};
     ghost use Rattle.logbook.specs.Pages.{Book};

@@ -19,16 +19,16 @@ use std::marker::Model;
 pub struct Note {
     /// The version that the patch leads to.
     pub number: u64,
-    /// What was accepted.
+    /// The accepted delta.
     pub delta: Delta,
     /// Each cell whose shown value changes, with the new value.
     pub changes: LinkedList<(Cell, Value)>,
-    /// The seat whose call made it.
+    /// The session slot whose call made it.
     pub owner: u64,
 }
 
-/// A delta, its number in the history, and each cell whose shown value it changes, with what it shows then. The delta
-/// is lent, since the copies take in the changes alone.
+/// A delta, its number in the history, and each cell whose shown value it changes, with the new value. It borrows the
+/// delta, since the copies take in the changes alone.
 #[derive(Drop)]
 pub struct Patch<'a> {
     pub(crate) number: u64,
@@ -59,10 +59,8 @@ impl<'a> Model for Patch<'a> {
 }
 
 impl<'a> Patch<'a> {
-    /// The patch of a delta: its number in the history, the cells whose shown values change, ascending, with what they
-    /// show then, and the seat whose call made it.
-    ///
-    /// Cost: constant.
+    /// Returns the patch of a delta: its number in the history, the cells whose shown values change, ascending, with
+    /// the new values, and the session slot whose call made it.
     pub fn new(number: u64, delta: &'a Delta, changes: Vec<(Cell, Kept)>, owner: u64) -> Patch<'a>
         ensures { result ≡ record {
           number = number;
@@ -79,10 +77,8 @@ impl<'a> Patch<'a> {
         }
     }
 
-    /// The patch of a delta that changes what one cell shows: the cell, and what it shows then. All else is as in
-    /// [`Patch::new`].
-    ///
-    /// Cost: constant; the change takes no memory.
+    /// Returns the patch of a delta that changes what one cell shows. All else is as in [`Patch::new`]; the change
+    /// takes no memory.
     pub fn of_one(number: u64, delta: &'a Delta, change: (Cell, Kept), owner: u64) -> Patch<'a>
         ensures { result ≡ record {
           number = number;
@@ -99,18 +95,14 @@ impl<'a> Patch<'a> {
         }
     }
 
-    /// The version that the patch leads to.
-    ///
-    /// Cost: constant.
+    /// Returns the version that the patch leads to.
     pub fn number(&self) -> u64
         ensures number { result ≡ self.now.number }
     {
         self.number
     }
 
-    /// What was accepted.
-    ///
-    /// Cost: constant.
+    /// Returns the accepted delta.
     pub fn delta(&self) -> &'a Delta
         ensures delta { result.now ≡ self.now.delta }
         ensures in_grid { AreInGrid self.now.delta }
@@ -120,19 +112,17 @@ impl<'a> Patch<'a> {
         self.delta
     }
 
-    /// Each cell whose shown value changes, with what it shows then.
+    /// Returns each cell whose shown value changes, with the new value.
     ///
     /// Nothing in the program calls it: the copies take the changes out. It is part of the public interface, as the
     /// number and the delta are.
-    ///
-    /// Cost: constant.
     pub fn changes(&self) -> &[(Cell, Kept)]
         ensures changes { map valued result.now ≡ self.now.changes }
     {
         self.changes.as_slice()
     }
 
-    /// The patch with one more owner of its delta. Refused only when out of memory.
+    /// The patch with one more owner of its delta. Fails only when out of memory.
     pub(crate) fn keep(self, alloc: Global) -> Result<KeptPatch, Refusal>
         ensures kept { IfOk result (λ p. p ≡ self.entry) }
         ensures memory { IfErr result (λ e. e ≡ Memory) }
@@ -152,7 +142,7 @@ impl<'a> Patch<'a> {
     }
 }
 
-/// A patch with one more owner of its delta, until it is published.
+/// A patch that owns a share of its delta, until it is published.
 #[derive(Drop)]
 pub(crate) struct KeptPatch {
     pub(crate) number: u64,

@@ -80,9 +80,7 @@ impl<L: Named> FaceReader<L> {
         FaceReader { reader, front }
     }
 
-    /// The list that this reader has seen.
-    ///
-    /// Cost: constant.
+    /// Returns the list that this reader has seen.
     pub fn front(&self) -> &BookPrefix
         ensures front { result.now ≡ record { book = L.book; list = self.now.list } }
         ensures legal { IsLegal L.opening self.now.list }
@@ -90,10 +88,11 @@ impl<L: Named> FaceReader<L> {
         &self.front
     }
 
-    /// Is told of a beginning of the published list, and takes it where it is as long as what this reader has seen or
-    /// longer. It is no step on the copies. While a patch of it waits to be shown, this reader can't enter.
+    /// Takes over a beginning of the published list if it is as long as what this reader has seen or longer, and
+    /// returns whether it is.
     ///
-    /// Cost: constant, no memory.
+    /// It is no step on the copies, and takes no memory. While a patch of that beginning waits to be shown, this reader
+    /// can't enter.
     pub fn learn(&mut self, front: &BookPrefix) -> bool
         requires book { front.now.book ≡ L.book }
         requires legal { IsLegal L.opening front.now.list }
@@ -108,14 +107,15 @@ impl<L: Named> FaceReader<L> {
         true
     }
 
-    /// Takes the copy that is shown now, in one step. The reader comes back where the writer is gone, and where the
-    /// copy is older than what the reader has seen or been told of; so it is while a patch that it has been told of
-    /// still waits to be shown.
+    /// Takes the copy that is shown now, in one step.
     ///
-    /// What it then shows are the settled values of a history that a legal list of patches stands for, all cells at
-    /// one version, and the list begins with all that this reader had seen.
+    /// The reader comes back if the writer is gone. It also comes back if the copy is older than what the reader has
+    /// seen or learned of: a patch that it learned of then still waits to be shown.
     ///
-    /// Cost: constant; no lock, no wait and no memory.
+    /// What the copy shows are the settled values of a history that a legal list of patches stands for, all cells at
+    /// one version. That list begins with all that this reader had seen.
+    ///
+    /// It takes no lock and no memory, and doesn't wait.
     pub fn enter(self) -> Result<Seen<L>, FaceReader<L>>
         ensures later { IfOk result (λ s. IsPrefix self.list s.list) }
         ensures legal { IfOk result (λ s. IsLegal L.opening s.list) }
@@ -128,7 +128,7 @@ impl<L: Named> FaceReader<L> {
             Ok(reading) => reading,
             Err(reader) => return Err(FaceReader { reader, front }),
         };
-        // A copy is older than what its writer told of only while some of that waits to be shown.
+        // A copy is older than what the reader learned of only while some of that waits to be shown.
         if !front.begins(reading.get().front()) {
             return Err(FaceReader {
                 reader: reading.leave(),
@@ -140,18 +140,14 @@ impl<L: Named> FaceReader<L> {
 }
 
 impl<L: Named> Seen<L> {
-    /// The length of the history.
-    ///
-    /// Cost: constant.
+    /// Returns the length of the history.
     pub fn version(&self) -> u64
         ensures version { result ≡ length (history_of L.opening self.now.list) }
     {
         self.reading.get().version()
     }
 
-    /// What a cell shows.
-    ///
-    /// Cost: constant.
+    /// Returns what a cell shows.
     pub fn at(&self, cell: Cell) -> Value
         ensures value { result ≡ slice_index_or self.now.values cell Empty }
         ensures whole { Shows (history_of L.opening self.now.list) self.now.values }
@@ -159,16 +155,14 @@ impl<L: Named> Seen<L> {
         self.reading.get().at(cell)
     }
 
-    /// The list that the copy is of, which readers are shown.
+    /// Returns the list that the copy is of, which readers are shown.
     pub fn shown(&self) -> ShownPrefix
         ensures shown { result ≡ record { book = L.book; list = self.now.list } }
     {
         ShownPrefix::of(self.reading.get().front())
     }
 
-    /// Ends the reading.
-    ///
-    /// Cost: constant, no memory.
+    /// Ends the reading, and returns the reader. It takes no memory.
     pub fn leave(self) -> FaceReader<L>
         ensures { result ≡ record { list = self.list; enters = self.enters } }
     {

@@ -7,7 +7,7 @@ use std::marker::Model;
 
 /// A token for a beginning of the published list that readers were shown. A contract sees it as that beginning.
 ///
-/// Only two make one of their own: the writer of the copies, of a list that it has shown, and a reader, of the copy
+/// Only two make one of their own: the writer of the copies, for a list that it has shown, and a reader, for the copy
 /// that it reads.
 #[derive(Drop)]
 pub struct ShownPrefix {
@@ -36,7 +36,7 @@ impl ShownPrefix {
         }
     }
 
-    /// The beginning.
+    /// Returns the beginning.
     pub fn front(&self) -> &BookPrefix
         ensures { result.now ≡ self.now }
     {

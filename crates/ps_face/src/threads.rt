@@ -1,6 +1,6 @@
-//! That the writer of published copies may go to another thread.
+//! Proof that the writer of published copies may go to another thread.
 //!
-//! The search for this finds no proof over the whole writer at once, so its parts are taken one after another.
+//! The search for this proof fails over the whole writer at once, so it takes the parts one after another.
 ghost use denote.Param.Send.{IsSend, IsSync};
 ghost use Rattle.ps_face.specs.contracts.patch.KeptPatch as patch;
 ghost use Rattle.ps_face.specs.contracts.writer.FaceWriter as writer;
@@ -26,16 +26,15 @@ fn is_send_and_sync<T: Send + Sync>()
     ensures sync { IsSync T.row }
 {}
 
-/// A patch that is kept may go to another thread.
+/// A stored patch may go to another thread.
 fn patch_is_send()
     ensures { IsSend patch.the_row }
 {
     is_send_and_sync::<CellState>();
 }
 
-/// The writer of published copies may go to another thread. Who shares a writer between threads calls this first.
-///
-/// Cost: none.
+/// States that the writer of published copies may go to another thread. Callers that share a writer between threads
+/// call this first.
 pub fn writer_is_send<L: Named, R: Wait + Drop + Send>()
     ensures { IsSend (writer.the_row L.row R.row (record { book = L.book; opening = L.opening }) L.Ledger) }
 {

@@ -14,8 +14,8 @@ use ps_shown::Kept;
 use std::alloc::Global;
 use std::marker::Model;
 
-/// With so many patches that wait all are shown at once, so fewer than this wait. Together they change no more cells
-/// than this either. So readers are never further behind, and what waits takes little memory.
+/// The number of waiting patches at which all are shown at once, so fewer than this wait. Together they change no more
+/// cells than this either. So readers are never further behind, and what waits takes little memory.
 pub const MOST_WAITING: usize = 64;
 
 /// The patches of the list that wait to be shown, gathered as one operation on a copy. A contract sees them as how many
@@ -78,7 +78,7 @@ impl Waiting {
         self.patches
     }
 
-    /// Makes room for a patch that is to wait. Refused only when out of memory.
+    /// Makes room for a patch that is to wait. Fails only when out of memory.
     #[inline(always)]
     pub(crate) fn reserve(&mut self) -> Result<(), Refusal>
         ensures same { self.new ≡ self.old }
@@ -90,7 +90,7 @@ impl Waiting {
         Ok(())
     }
 
-    /// Lets one patch more wait, after the others. It comes back where there is no room for its changes.
+    /// Lets one more patch wait, after the others. It comes back if there is no room for its changes.
     #[inline(always)]
     pub(crate) fn gather(&mut self, next: Operation) -> Result<(), Operation>
         requires few { self.old.patches < MOST_WAITING }
@@ -115,7 +115,7 @@ impl Waiting {
         Ok(())
     }
 
-    /// What a copy takes in with all that wait, of which then none waits. Where none waited there is nothing.
+    /// Takes out all that waits, as one operation; none if nothing waits.
     #[inline(always)]
     pub(crate) fn take(&mut self) -> Option<Operation>
         ensures turns { MatchOption result (self.old.turns ≡ []) (λ t. self.old.turns ≡ t ∷ []) }

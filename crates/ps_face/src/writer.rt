@@ -31,8 +31,8 @@ use std::alloc::{AllocError, Global};
 use std::marker::Model;
 use std::sync::Wait;
 
-/// So many operations lie in the queue of the copies at most: what waited and a patch, which were shown last and one of
-/// the copies has yet to take in, and then as many that are to be shown.
+/// The most operations in the queue of the copies. Two were shown last, and one of the copies has yet to take them in:
+/// what waited, and a patch. As many again are to be shown.
 const MOST_QUEUED: usize = 4;
 
 type Copies<L> = Writer<Face, Operation, View, Law<L>>;
@@ -45,7 +45,7 @@ pub struct FaceWriter<L: Named, R: Wait + Drop> {
     front: BookPrefix,
     staged: Vec<KeptPatch>,
     waiting: Waiting,
-    /// the drop of the copies waits for those that read
+    /// waits for readers when the copies are dropped
     rt: R,
 }
 
@@ -70,9 +70,9 @@ impl<L: Named, R: Wait + Drop> Model for FaceWriter<L, R> {
 }
 
 impl<L: Named, R: Wait + Drop> FaceWriter<L, R> {
-    /// Makes two copies of the shown values of a sheet, with its version, and so many readers, 1 to `SEATS`.
+    /// Makes two copies of the shown values of a sheet, with its version, and `readers` readers, 1 to `SEATS`.
     ///
-    /// Refused where memory runs out, and where a reader gets no place.
+    /// Fails when out of memory, or if a reader gets no place.
     ///
     /// Cost: that of copying the shown values twice.
     pub fn open(
@@ -115,12 +115,12 @@ impl<L: Named, R: Wait + Drop> FaceWriter<L, R> {
         }
     }
 
-    /// Keeps a patch that may come next, with one more owner of its delta. Refused only when out of memory, and then
-    /// nothing has changed.
+    /// Stores a patch that may come next, with one more owner of its delta, until [`FaceWriter::publish`] shows it.
     ///
-    /// Nothing in the program calls it: [`FaceWriter::publish_patch`] does this and [`FaceWriter::publish`] in one. It
-    /// is part of the public interface, for who has something to do between the two, as a test that looks at the copies
-    /// there.
+    /// Fails only when out of memory, and then nothing has changed.
+    ///
+    /// Nothing in the program calls it: [`FaceWriter::publish_patch`] does both in one call. It is part of the public
+    /// interface, for callers that do something between the two, as a test that looks at the copies there.
     ///
     /// Cost: constant; the first call takes memory for one patch.
     pub fn append(&mut self, patch: Patch<'_>) -> Result<(), Refusal>
@@ -136,8 +136,8 @@ impl<L: Named, R: Wait + Drop> FaceWriter<L, R> {
         Ok(())
     }
 
-    /// Shows readers the patch that is pending, and all that waits, at one step, and gives the delta back. It waits for
-    /// those that still read what was shown before the last time.
+    /// Shows readers the patch that is pending, and all that waits, at one step, and returns the delta. It waits for
+    /// the readers that still read what was shown before the last time.
     ///
     /// Nothing in the program calls it. It is part of the public interface, as [`FaceWriter::append`] is.
     ///
@@ -166,10 +166,11 @@ impl<L: Named, R: Wait + Drop> FaceWriter<L, R> {
         delta
     }
 
-    /// Shows readers a patch that may come next, and with it all that waits, at one step. It waits for those that still
-    /// read what was shown before the last time.
+    /// Shows readers a patch that may come next, and with it all that waits, at one step. It waits for the readers that
+    /// still read what was shown before the last time.
     ///
-    /// Cost: twice the changes of the patch, and a constant for each reader; what waits has been paid for. No memory.
+    /// Cost: twice the changes of the patch, and a constant for each reader. Posting has paid for what waits. No
+    /// memory.
     #[inline(always)]
     pub fn publish_patch(&mut self, patch: Patch<'_>)
         requires none { self.old.pending ≡ [] }
@@ -191,11 +192,13 @@ impl<L: Named, R: Wait + Drop> FaceWriter<L, R> {
         show_with(rt, copies, waiting, next);
     }
 
-    /// Adds a patch that may come next to the list. Readers are shown it only by the next [`FaceWriter::show`] or
-    /// [`FaceWriter::publish_patch`]. But where [`MOST_WAITING`] patches then wait, or would wait with more changes
-    /// than that, all are shown at once. Refused only when out of memory, and then nothing has changed.
+    /// Adds a patch that may come next to the list. Only the next [`FaceWriter::show`] or [`FaceWriter::publish_patch`]
+    /// shows it to readers.
     ///
-    /// Cost: its changes, three times, of which twice once they are shown; until then no look at the readers. The first
+    /// But if [`MOST_WAITING`] patches then wait, or would wait with more changes than that, all are shown at once.
+    /// Fails only when out of memory, and then nothing has changed.
+    ///
+    /// Cost: its changes, once now and twice when they are shown; until then no look at the readers. The first patch
     /// that waits takes memory for [`MOST_WAITING`] changes.
     #[inline(always)]
     pub fn post_patch(&mut self, patch: Patch<'_>) -> Result<(), Refusal>
@@ -228,10 +231,10 @@ impl<L: Named, R: Wait + Drop> FaceWriter<L, R> {
         Ok(())
     }
 
-    /// Shows readers all that waits, at one step; or does nothing where nothing waits. It waits for those that still
+    /// Shows readers all that waits, at one step, or does nothing if nothing waits. It waits for the readers that still
     /// read what was shown before the last time.
     ///
-    /// Cost: a constant for each reader, for what waits has been paid for; constant where nothing waits. No memory.
+    /// Cost: a constant for each reader, since posting has paid for what waits. Constant if nothing waits. No memory.
     pub fn show(&mut self)
         ensures shown { self.new ≡ record self.old { shown = self.old.list } }
     {
@@ -244,9 +247,7 @@ impl<L: Named, R: Wait + Drop> FaceWriter<L, R> {
         show_waiting(rt, copies, waiting);
     }
 
-    /// The published list.
-    ///
-    /// Cost: constant.
+    /// Returns the published list.
     pub fn front(&self) -> &BookPrefix
         ensures front { result.now ≡ record { book = L.book; list = self.now.list } }
         ensures legal { IsLegal L.opening self.now.list }
@@ -255,7 +256,7 @@ impl<L: Named, R: Wait + Drop> FaceWriter<L, R> {
         &self.front
     }
 
-    /// The published list, once readers are shown all of it.
+    /// Returns the published list, once readers are shown all of it.
     pub fn shown(&self) -> ShownPrefix
         requires all { self.now.shown ≡ self.now.list }
         ensures shown { result ≡ record { book = L.book; list = self.now.shown } }
@@ -333,7 +334,7 @@ fn fill_queue<L: Named>(
     Ok(())
 }
 
-/// Makes so many readers.
+/// Makes `readers` readers.
 fn make_readers<L: Named>(
     alloc: Global,
     copies: &Copies<L>,
@@ -355,7 +356,7 @@ fn make_readers<L: Named>(
     Ok(made)
 }
 
-/// Adds a patch that may come next to the book, of which this is the one writer, and gives what it does to a copy.
+/// Adds a patch that may come next to the book, as its one writer. Returns what it does to a copy.
 #[inline(always)]
 fn add_patch<L: Named, R: Wait>(
     rt: &R,
@@ -396,7 +397,7 @@ fn add_to<R: Wait>(rt: &R, head: &Head, front: &mut BookPrefix, patch: &Patch<'_
     }
 }
 
-/// Shows readers a copy that has taken in all that waits, or does nothing where nothing waits.
+/// Shows readers a copy that has taken in all that waits, or does nothing if nothing waits.
 #[inline(never)]
 fn show_waiting<L: Named, R: Wait>(rt: &R, copies: &mut Copies<L>, waiting: &mut Waiting)
     requires stands { CopyStands L.opening L.book copies.old.desk.shown.value }
@@ -450,8 +451,8 @@ fn turn_over<L: Named, R: Wait>(rt: &R, copies: &mut Copies<L>, operation: Opera
     show_all(rt, copies);
 }
 
-/// Puts the operation at the end of the queue of the copies. Where that has no room and no memory for it, what lies in
-/// it is shown before; it had room for it at the opening.
+/// Puts the operation at the end of the queue of the copies, which got room for it at the opening. If there is no room
+/// and allocation fails, what lies in the queue is shown before.
 #[inline(always)]
 fn queue<L: Named, R: Wait>(rt: &R, copies: &mut Copies<L>, operation: Operation)
     requires waits { MayShow L.opening L.book copies.old.desk.shown.value
@@ -472,8 +473,8 @@ fn queue<L: Named, R: Wait>(rt: &R, copies: &mut Copies<L>, operation: Operation
     }
 }
 
-/// Makes room in the queue of the copies, by what it has taken and one of the copies lacks: shows readers what waits,
-/// or does nothing that they see.
+/// Makes room in the queue of the copies, by the operations that one of the copies still lacks. Shows readers what
+/// waits, or does nothing that they see.
 #[cold]
 #[inline(never)]
 fn make_room<L: Named, R: Wait>(rt: &R, copies: &mut Copies<L>)
@@ -487,7 +488,7 @@ fn make_room<L: Named, R: Wait>(rt: &R, copies: &mut Copies<L>)
     let _ = replace_with(copies, rt, show_once::<L, R>);
 }
 
-/// Shows readers a copy that has taken in all. It tries again where a text has as many owners as can be counted.
+/// Shows readers a copy that has taken in all. It tries again if a text has as many owners as can be counted.
 fn show_all<L: Named, R: Wait>(rt: &R, copies: &mut Copies<L>)
     requires { MayShow L.opening L.book copies.old.desk.shown.value
         (drop copies.old.behind copies.old.log.items) }
@@ -501,7 +502,7 @@ fn show_all<L: Named, R: Wait>(rt: &R, copies: &mut Copies<L>)
     }
 }
 
-/// Shows readers a copy that has taken in all, or nothing new where a text has as many owners as can be counted.
+/// Shows readers a copy that has taken in all, or nothing new if a text has as many owners as can be counted.
 fn show_once<L: Named, R: Wait>(copies: Copies<L>, rt: &R) -> (Copies<L>, Result<(), AllocError>)
     requires { MayShow L.opening L.book copies.desk.shown.value (drop copies.behind copies.log.items) }
     ensures shown { OnOk result.1 (result.0.desk.shown.value

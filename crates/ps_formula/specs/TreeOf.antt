@@ -1,4 +1,4 @@
--- What an expression of the program stands for: its tree, with each box as what it holds.
+-- The tree that an expression of the program stands for: each box counts as what it holds.
 use Rattle.ps_formula.specs.Tree.{Tree, Item, number, reference, signed, joined, group, call, expression, range}
 use Rattle.ps_formula.specs.Tree.{in_row}
 use Rattle.ps_formula.specs.declared.expr.Expr.{Expr}
@@ -29,6 +29,6 @@ sides_step operands = (operands.left, operands.right)
 abbrev pub tree_of : Expr → Tree
 tree_of = fold-Expr Item Tree Sides item_step tree_step sides_step
 
--- the same of an argument
+-- the tree item of an argument
 abbrev pub item_of : Argument → Item
 item_of = fold-Argument Item Tree Sides item_step tree_step sides_step

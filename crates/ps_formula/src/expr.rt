@@ -26,7 +26,7 @@ pub enum Expr {
     Infix(Operator, Box<Operands>),
     /// An expression in parentheses.
     Group(Box<Expr>),
-    /// A function of its arguments, of which there may be none.
+    /// A function and its arguments, if any.
     Call(Function, Vec<Argument>),
 }
 

@@ -20,8 +20,7 @@ pub const LONGEST_ENTRY: usize = 512;
 /// The most bytes of a canonical text.
 pub const LONGEST_TEXT: usize = 256;
 
-/// A formula. A contract sees it as its tree, so two formulas are equal where their trees are, however they
-/// were written.
+/// A formula. A contract sees it as its tree, so two formulas are equal where their trees are, whatever their spelling.
 #[derive(Drop)]
 pub struct Formula {
     tree: Expr,
@@ -54,12 +53,16 @@ impl Formula {
     ghost use Rattle.ps_formula.specs.Formula.{HasTree};
     ghost use Rattle.ps_formula.specs.References.{rects_of, mentions};
 
-    /// The formula that the bytes have by the grammar. Refused as too long where there are more than
-    /// `LONGEST_ENTRY` bytes, or where the canonical text would have more than `LONGEST_TEXT`; as no formula where
-    /// the bytes have no tree; and when out of memory.
+    /// Returns the formula that the bytes are by the grammar.
     ///
-    /// Cost: linear in the bytes; allocations are one for each operator, sign and group, the growing list of each
-    /// call's arguments, one list each for the tokens and the text, and one for more than three rectangles.
+    /// # Errors
+    ///
+    /// - `TooLong`: more than `LONGEST_ENTRY` bytes, or a canonical text of more than `LONGEST_TEXT` bytes.
+    /// - `Formula`: the bytes have no tree.
+    /// - `Memory`: out of memory.
+    ///
+    /// Cost: linear in the bytes. Allocations: one for each operator, sign and group, the growing list of each call's
+    /// arguments, one each for the tokens and the text, and one for more than three rectangles.
     pub fn read(alloc: Global, bytes: &[u8]) -> Result<Formula, Refusal>
         ensures short { IfOk result (λ _. length bytes.now ≤ LONGEST_ENTRY) }
         ensures found { IfOk result (λ t. HasTree bytes.now t) }
@@ -95,18 +98,14 @@ impl Formula {
         Ok(Formula { tree, text, rects })
     }
 
-    /// The tree of the formula.
-    ///
-    /// Cost: constant.
+    /// Returns the tree of the formula.
     pub fn tree(&self) -> &Expr
         ensures { tree_of result.now ≡ self.now }
     {
         &self.tree
     }
 
-    /// The canonical text of the formula, which has the formula's tree.
-    ///
-    /// Cost: constant.
+    /// Returns the canonical text of the formula, which has the formula's tree.
     pub fn text(&self) -> &[u8]
         ensures canonical { result.now ≡ canon self.now }
         ensures has_tree { HasTree result.now self.now }
@@ -115,9 +114,7 @@ impl Formula {
         &self.text
     }
 
-    /// Each reference and range of the formula as a rectangle, from left to right, those of untaken branches too.
-    ///
-    /// Cost: constant.
+    /// Returns each reference and range as a rectangle, from left to right. Those in branches not taken count too.
     pub fn rects(&self) -> &[Rect]
         ensures each { result.now ≡ rects_of self.now }
         ensures covered { (c : ℕ) → list_any (λ r. is_inside r c) result.now ≡ mentions self.now c }
@@ -126,7 +123,7 @@ impl Formula {
     }
 }
 
-/// What stands after the opening of a formula.
+/// The bytes after the opening of a formula, `=` or `of:=`.
 fn after_opening(bytes: &[u8]) -> Option<&[u8]>
     ensures found { IfSome result (λ rest. Opens bytes.now rest.now) }
     ensures none { IfNone result ((rest : List ℕ) → Opens bytes.now rest → ⊥) }
@@ -138,7 +135,7 @@ fn after_opening(bytes: &[u8]) -> Option<&[u8]>
     }
 }
 
-/// Whoever knows which cells hold a formula.
+/// A holder of formulas: it knows which cells hold one.
 pub trait Formulas {
     ghost use Rattle.std.specs.Prelude.{Option, ℕ};
     ghost use Rattle.std.specs.Option.{option_copied};
@@ -147,9 +144,7 @@ pub trait Formulas {
     /// The tree of a cell's formula, where the cell holds one.
     ghost formula_at: { Self → ℕ → Option Tree };
 
-    /// The formula of the cell, if it holds one.
-    ///
-    /// Cost: constant.
+    /// Returns the formula of the cell, if it holds one.
     fn formula(&self, cell: Cell) -> Option<&Formula>
         ensures { option_copied result ≡ formula_at self.now cell };
 }

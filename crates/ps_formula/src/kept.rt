@@ -1,4 +1,4 @@
-//! What a formula keeps beside its tree, found from its tokens.
+//! The parts that a formula stores beside its tree, found from its tokens.
 
 ghost use Rattle.std.specs.Prelude.{◌≡◌, ◌≤◌, ◌∷◌, [], length, IfOk, IfErr, MatchOption};
 ghost use Rattle.std.specs.List.{flat_map};
@@ -12,8 +12,8 @@ use ps_grid::{Rect, Refusal};
 use ps_tokens::{Token, put_token};
 use std::alloc::Global;
 
-/// The canonical text of the tokens after its `=`. `room` is how many bytes are reserved for it at once; none that it
-/// doesn't need is kept.
+/// Returns the canonical text of the tokens after its `=`. At first `room` bytes are reserved; the spare ones are freed
+/// at the end.
 pub(crate) fn text(alloc: Global, room: usize, tokens: &[Token]) -> Result<Vec<u8>, Refusal>
     ensures text { IfOk result (λ text. text.items ≡ 61 ∷ tokens_text tokens.now) }
     ensures memory { IfErr result (λ e. e ≡ Memory) }
@@ -37,7 +37,7 @@ fn rect_count(tokens: &[Token]) -> usize
         .count()
 }
 
-/// Each reference and range among the tokens as a rectangle, in a list of its own.
+/// Each reference and range among the tokens as a rectangle, in a new list.
 fn many_rects(alloc: Global, tokens: &[Token]) -> Result<Vec<Rect>, Refusal>
     ensures rects { IfOk result (λ rects. rects.items ≡ flat_map rects_at tokens.now) }
     ensures memory { IfErr result (λ e. e ≡ Memory) }
@@ -70,7 +70,7 @@ fn first_rect(tokens: &[Token]) -> Option<(Rect, &[Token])>
     None
 }
 
-/// Each reference and range among the tokens as a rectangle. As many as three are found in one walk.
+/// Returns each reference and range among the tokens as a rectangle. Up to three are found in one walk.
 pub(crate) fn rects(alloc: Global, tokens: &[Token]) -> Result<Rects, Refusal>
     ensures rects { IfOk result (λ rects. in_line rects ≡ flat_map rects_at tokens.now) }
     ensures memory { IfErr result (λ e. e ≡ Memory) }

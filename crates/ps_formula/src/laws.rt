@@ -1,25 +1,19 @@
-//! Laws of the grammar, as functions that do nothing: each is its contract.
+//! Laws of the grammar. Each function does nothing: its contract is the law.
 
 ghost use Rattle.ps_formula.specs.Formula.{CanonicalTextHasTree, OneTree};
 ghost use Rattle.ps_formula.specs.Order.{OrderedByText};
 
-/// A text has at most one tree.
-///
-/// Cost: none.
+/// States that a text has at most one tree.
 pub fn one_tree()
     ensures { OneTree }
 {}
 
-/// Where some text has a tree, the tree's canonical text has it too.
-///
-/// Cost: none.
+/// States that a tree's canonical text has that tree, if any text has it.
 pub fn canonical_text_has_tree()
     ensures { CanonicalTextHasTree }
 {}
 
-/// Trees of formulas are ordered by the bytes of their canonical texts.
-///
-/// Cost: none.
+/// States that trees of formulas are ordered by the bytes of their canonical texts.
 pub fn ordered_by_text()
     ensures { OrderedByText }
 {}

@@ -1,7 +1,7 @@
 //! The reader of trees: from tokens to an expression, each rule of the grammar a function.
 //!
-//! Every function is passed a depth that falls by one in each call, so that all of them end; `whole` passes one that
-//! no formula uses up.
+//! Every function takes a depth that falls by one in each call, so all of them end. `whole` passes a depth that no
+//! formula uses up.
 
 ghost use Rattle.std.specs.Prelude.{◌≡◌, ◌⊎◌, map, IfOk, IfErr};
 ghost use Rattle.std.specs.Option.{option_copied, option_map};
@@ -58,7 +58,7 @@ fn takes_ranges(function: Function) -> bool
     )
 }
 
-/// The sign that the operator is in front of an operand.
+/// The sign that the operator means in front of an operand.
 fn sign(operator: Operator) -> Option<Sign>
     ensures { result ≡ sign_of operator }
 {
@@ -69,7 +69,7 @@ fn sign(operator: Operator) -> Option<Sign>
     }
 }
 
-/// What stands after a closing parenthesis, if the tokens begin with one.
+/// The tokens after a closing parenthesis, if they begin with one.
 fn closed(tokens: &[Token]) -> Option<&[Token]>
     ensures { option_copied result ≡ closed_at tokens.now }
 {
@@ -79,7 +79,7 @@ fn closed(tokens: &[Token]) -> Option<&[Token]>
     }
 }
 
-/// A range, and what stands after it.
+/// A range, and the tokens after it.
 fn range(tokens: &[Token]) -> Option<(Rect, &[Token])>
     ensures { option_map (λ x. (x.0, x.1.now)) result ≡ range_at tokens.now }
 {
@@ -89,7 +89,7 @@ fn range(tokens: &[Token]) -> Option<(Rect, &[Token])>
     }
 }
 
-/// An operator that joins operands of a level below this one, and what stands after it.
+/// An operator that joins operands of a level below this one, and the tokens after it.
 fn operator(loosest: usize, tokens: &[Token]) -> Option<(Operator, &[Token])>
     ensures { option_map (λ x. (x.0, x.1.now)) result ≡ operator_at loosest tokens.now }
 {
@@ -101,7 +101,7 @@ fn operator(loosest: usize, tokens: &[Token]) -> Option<(Operator, &[Token])>
     }
 }
 
-/// An expression of a level, as far as it goes, and what stands after it.
+/// The longest expression of a level at the front, and the tokens after it.
 #[cycle(parser)]
 #[tactic(auto, unfolding(crate::specs::Inside::Reading::level_at))]
 fn level(
@@ -216,7 +216,7 @@ fn call(
     Ok((Expr::Call(function, items), rest))
 }
 
-/// Further arguments after those before, up to the closing parenthesis.
+/// The arguments so far and further ones, up to the closing parenthesis.
 #[cycle(parser)]
 #[tactic(auto, unfolding(crate::specs::Inside::Reading::level_at))]
 fn arguments(
@@ -237,7 +237,7 @@ fn arguments(
     after_argument(alloc, depth - 1, function, before, rest)
 }
 
-/// What stands after an argument: the closing parenthesis, or a separator and further arguments.
+/// The rest of the arguments after one of them: the closing parenthesis, or a separator and further arguments.
 #[cycle(parser)]
 #[tactic(auto, unfolding(crate::specs::Inside::Reading::level_at))]
 fn after_argument(
@@ -260,7 +260,7 @@ fn after_argument(
     }
 }
 
-/// One argument, and what stands after it.
+/// One argument, and the tokens after it.
 #[cycle(parser)]
 #[tactic(auto, unfolding(crate::specs::Inside::Reading::level_at))]
 fn argument(
@@ -284,8 +284,12 @@ fn argument(
     Ok((Argument::Expression(inner), rest))
 }
 
-/// The expression that all of the tokens are together; refused as a formula where they are none, and when out of
-/// memory.
+/// Returns the expression that all of the tokens are together.
+///
+/// # Errors
+///
+/// - `Formula`: they are no expression.
+/// - `Memory`: out of memory.
 ///
 /// Cost: linear in the tokens.
 pub(crate) fn whole(alloc: Global, tokens: &[Token]) -> Result<Expr, Refusal>

@@ -1,11 +1,11 @@
-//! The rectangles that a formula keeps.
+//! The rectangles that a formula stores.
 
 ghost use Rattle.std.specs.Prelude.{◌≡◌};
 ghost use Rattle.ps_formula.specs.Inside.Parts.{in_line};
 
 use ps_grid::Rect;
 
-/// Rectangles, from left to right. As many as three, as most formulas have, take no memory of their own.
+/// Rectangles, from left to right. Up to three, as most formulas have, take no memory of their own.
 #[derive(Drop)]
 pub(crate) enum Rects {
     Empty,
@@ -16,9 +16,7 @@ pub(crate) enum Rects {
 }
 
 impl Rects {
-    /// The rectangles.
-    ///
-    /// Cost: constant.
+    /// Returns the rectangles.
     pub(crate) fn as_slice(&self) -> &[Rect]
         ensures { result.now ≡ in_line self.now }
     {

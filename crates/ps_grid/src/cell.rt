@@ -30,9 +30,7 @@ impl Model for Cell {
 }
 
 impl Cell {
-    /// The cell of a column, counted from 0, and a row, counted from 1; none outside the grid.
-    ///
-    /// Cost: constant.
+    /// Returns the cell at a column, counted from 0, and a row, counted from 1; `None` outside the grid.
     pub fn new(column: u8, row: u16) -> Option<Cell>
         ensures { SomeIff result ((column < COLUMNS) × (1 ≤ row) × (row ≤ ROWS)) (cell_at column row) }
     {
@@ -45,7 +43,7 @@ impl Cell {
         }
     }
 
-    /// The cell of a column and a row, both counted from 0.
+    /// Returns the cell at a column and a row, both counted from 0.
     pub(crate) fn at(column: usize, row: usize) -> Cell
         requires column { column < COLUMNS }
         requires row { row < ROWS }
@@ -56,9 +54,7 @@ impl Cell {
         }
     }
 
-    /// The index of the cell: row by row, each row from column 0 on.
-    ///
-    /// Cost: constant.
+    /// Returns the index of the cell: row by row, each row from column 0 on.
     pub fn index(self) -> usize
         ensures index { result ≡ self }
         ensures in_grid { result < CELLS }
@@ -66,9 +62,7 @@ impl Cell {
         self.place as usize
     }
 
-    /// The cell at an index; none where the grid has no such index.
-    ///
-    /// Cost: constant.
+    /// Returns the cell at an index; `None` unless the index is below `CELLS`.
     pub fn from_index(index: usize) -> Option<Cell>
         ensures { SomeIff result (index < CELLS) index }
     {
@@ -79,7 +73,7 @@ impl Cell {
         }
     }
 
-    /// The cell at an index of the grid.
+    /// Returns the cell at an index of the grid.
     pub(crate) fn with_index(index: usize) -> Cell
         requires { index < CELLS }
         ensures { result ≡ index }
@@ -89,10 +83,10 @@ impl Cell {
         }
     }
 
-    /// The cell that a text names: the letters of its column, A to CZ, and its row, 1 to 1024, with no zero in
-    /// front and nothing else; none where the text names no cell.
+    /// Returns the cell that a text names; `None` where it names no cell.
     ///
-    /// Cost: constant, for a text of more than `NAME_BYTES` bytes is refused unread.
+    /// A name is the letters of a column, A to CZ, and the digits of a row, 1 to 1024, with no leading zero. Nothing
+    /// else may stand in it. A text of more than `NAME_BYTES` bytes is refused unread.
     pub fn read(text: &[u8]) -> Option<Cell>
         ensures { (c : ℕ) → (result ≡ Some c) ↔ ((c < CELLS) × (text.now ≡ cell_name c)) }
     {
@@ -107,10 +101,10 @@ impl Cell {
         Cell::named(letters, digits)
     }
 
-    /// The cell whose column has this name and whose row these digits, with no zero in front; none where the grid
-    /// has no such cell.
+    /// Returns the cell whose column has the name `letters` and whose row is written in `digits`.
     ///
-    /// Cost: constant, for more digits than a name has are refused unread.
+    /// Returns `None` where the grid has no such cell, and where the digits begin with a zero. More than `NAME_BYTES`
+    /// digits are refused unread.
     #[inline(always)]
     pub fn named(letters: &[u8], digits: &[u8]) -> Option<Cell>
         ensures { (c : ℕ) → (result ≡ Some c)
@@ -121,10 +115,10 @@ impl Cell {
         Some(Cell::at(usize::from(column), usize::from(row) - 1))
     }
 
-    /// Writes the name of the cell at the front of `out`, leaves the bytes after it as they are, and returns how
-    /// long the name is: the letters of the column, A to CZ, and the row in decimal, 1 to 1024.
+    /// Writes the name of the cell at the front of `out`, and returns the length of the name in bytes.
     ///
-    /// Cost: constant.
+    /// The name is the letters of the column, A to CZ, and the row in decimal, 1 to 1024. The bytes after it stay as
+    /// they are.
     pub fn write(self, out: &mut [u8; NAME_BYTES]) -> usize
         ensures name { take result out.new ≡ cell_name self }
         ensures rest { drop result out.new ≡ drop result out.old }
@@ -143,9 +137,7 @@ impl Cell {
         }
     }
 
-    /// The column of the cell, counted from 0.
-    ///
-    /// Cost: constant.
+    /// Returns the column of the cell, counted from 0.
     pub fn column(self) -> u8
         ensures column { result ≡ column_of self }
         ensures in_grid { result < COLUMNS }
@@ -153,9 +145,7 @@ impl Cell {
         (self.place % COLUMNS as u32) as u8
     }
 
-    /// The row of the cell, counted from 1.
-    ///
-    /// Cost: constant.
+    /// Returns the row of the cell, counted from 1.
     pub fn row(self) -> u16
         ensures row { result ≡ row_of self }
         ensures above { 1 ≤ result }
@@ -165,7 +155,7 @@ impl Cell {
     }
 }
 
-/// How many upper-case letters a text begins with, of which two are counted at most.
+/// Returns how many upper-case letters a text begins with, at most two.
 #[inline(always)]
 fn letter_count(text: &[u8]) -> usize
     ensures counted { result ≡ length (take_while is_ascii_uppercase (take 2 text.now)) }

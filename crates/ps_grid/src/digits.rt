@@ -5,11 +5,12 @@ ghost use Rattle.std.specs.Char.{digit_value};
 ghost use Rattle.std.specs.Option.{SomeIff};
 ghost use Rattle.std.specs.Str.Parse.{AllDigits, IsNumeral, digits_value};
 
-/// So many digits never write a number of more than 64 bits.
+/// A number of at most this many digits has at most 64 bits.
 const SAFE_DIGITS: usize = 19;
 
-/// The number that decimal digits write, one or more of them, with zeros in front or without; none where there is no
-/// digit, where a byte is none, or where the number has more than 64 bits.
+/// Returns the number that the decimal digits write. Leading zeros are allowed.
+///
+/// Returns `None` where there is no digit, where a byte is no digit, and where the number has more than 64 bits.
 ///
 /// Cost: linear in the bytes.
 pub fn read_digits(digits: &[u8]) -> Option<u64>
@@ -25,7 +26,7 @@ pub fn read_digits(digits: &[u8]) -> Option<u64>
     read_few(digits)
 }
 
-/// The number that so few digits write, if each byte is one.
+/// The number that at most `SAFE_DIGITS` digits write, if each byte is a digit.
 #[inline(always)]
 fn read_few(digits: &[u8]) -> Option<u64>
     requires { length digits.now ≤ SAFE_DIGITS }
@@ -38,7 +39,7 @@ fn read_few(digits: &[u8]) -> Option<u64>
     Some(number)
 }
 
-/// The number that digits write, if each byte is one and the number has at most 64 bits.
+/// The number that digits write, if each byte is a digit and the number has at most 64 bits.
 fn read_many(digits: &[u8]) -> Option<u64>
     ensures { SomeIff result (AllDigits 10 digits.now × (digits_value 10 digits.now < 2 ^ 64))
         (digits_value 10 digits.now) }

@@ -25,9 +25,7 @@ impl<L: Ledger> Model for GhostCount<L> {
 }
 
 impl<L: Ledger> GhostCount<L> {
-    /// A count of nothing yet, over a new ledger.
-    ///
-    /// Cost: none.
+    /// Creates a count of 0, over a new ledger.
     pub fn new(blank: Blank) -> GhostCount<L>
         requires { IsBlankOf blank L.name L.parts }
         ensures { result ≡ 0 }
@@ -37,17 +35,13 @@ impl<L: Ledger> GhostCount<L> {
     }
 
     /// Counts one more.
-    ///
-    /// Cost: none.
     pub fn rise(&mut self)
         ensures { self.new ≡ self.old + 1 }
     {
         self.add(1);
     }
 
-    /// Counts so many more.
-    ///
-    /// Cost: none.
+    /// Counts `amount` more.
     pub fn add(&mut self, amount: u64)
         ensures { self.new ≡ self.old + amount }
     {

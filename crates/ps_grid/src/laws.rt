@@ -1,19 +1,16 @@
-//! Laws of the definitions that several crates speak of, as functions that do nothing: each is its contract.
+//! Laws of the definitions that several crates use. Each function does nothing: its contract is the law.
 
 ghost use Rattle.ps_grid.specs.Chains.{LongChainsRepeat, LongListsRepeat};
 ghost use Rattle.ps_grid.specs.Refusals.{NumbersDiffer};
 
-/// No two refusals have one number.
-///
-/// Cost: none.
+/// States that no two refusals have the same number.
 pub fn refusal_numbers_differ()
     ensures { NumbersDiffer }
 {}
 
-/// The grid is finite: a list of more cells than it has holds a cell twice, and so does a chain of more
-/// references than it has cells.
+/// States that a list of more cells than the grid has holds a cell twice.
 ///
-/// Cost: none.
+/// So does a chain of more references than the grid has cells.
 pub fn long_chains_repeat()
     ensures lists { LongListsRepeat }
     ensures chains { LongChainsRepeat }

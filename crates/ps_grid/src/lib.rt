@@ -1,15 +1,16 @@
-//! The ground of the sheet: its size, its cells and rectangles, numbers in digits, how many take part, the refusals of
-//! all its calls, and what "a chain of references" means.
+//! The ground of the sheet: its size, its cells and rectangles, and numbers in digits. It also has the limits on
+//! replicas, workers and sessions, the refusals of all calls, and what "a chain of references" means.
 //!
 //! It is not the sheet: it knows no values, no formulas and no edits.
 //!
 //! The cell `B3` has column 1 and row 3, so its index is `2 * 104 + 1 = 209`. The rectangle from `A2`
 //! to `B3` has the four cells `A2`, `B2`, `A3`, `B3`, in this order.
 //!
-//! The contract to use: a `Cell` is its index, below `CELLS`, and `Cell::read` finds just the cell that has the name; a
-//! `Rect` is its `Area`, which lies in the grid, and `Rect::cells` walks just the cells that it contains, each once.
+//! The contract to use: a `Cell` is its index, below `CELLS`. `Cell::read` finds exactly the cell that has the name. A
+//! `Rect` is its `Area`, which lies in the grid. `Rect::cells` walks exactly the cells that it contains, each once.
 //!
-//! Cost: every call is constant but for the walk of a rectangle, which is its area, and `read_digits`.
+//! Cost: a walk of a rectangle takes time linear in its area, and `read_digits` in its bytes. Every other call is
+//! constant.
 #![tactic(auto)]
 
 mod cell;

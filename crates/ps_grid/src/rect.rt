@@ -32,9 +32,7 @@ impl Model for Rect {
 }
 
 impl Rect {
-    /// The smallest rectangle with both cells: any two of its opposite corners, in any order.
-    ///
-    /// Cost: constant.
+    /// Returns the smallest rectangle with both cells. They are opposite corners of it, given in any order.
     pub fn new(a: Cell, b: Cell) -> Rect
         ensures spanned { result ≡ spanned a b }
         ensures in_grid { LiesInGrid result }
@@ -51,9 +49,7 @@ impl Rect {
         }
     }
 
-    /// Whether the cell lies in the rectangle.
-    ///
-    /// Cost: constant.
+    /// Returns whether the cell lies in the rectangle.
     pub fn contains(self, cell: Cell) -> bool
         ensures { result ≡ is_inside self cell }
     {
@@ -65,9 +61,7 @@ impl Rect {
             && row < self.top + self.height
     }
 
-    /// How many columns the rectangle has.
-    ///
-    /// Cost: constant.
+    /// Returns how many columns the rectangle has, at least 1.
     pub fn width(self) -> usize
         ensures width { result ≡ self.width }
         ensures some { 1 ≤ result }
@@ -76,9 +70,7 @@ impl Rect {
         self.width as usize
     }
 
-    /// How many rows the rectangle has.
-    ///
-    /// Cost: constant.
+    /// Returns how many rows the rectangle has, at least 1.
     pub fn height(self) -> usize
         ensures height { result ≡ self.height }
         ensures some { 1 ≤ result }
@@ -87,9 +79,7 @@ impl Rect {
         self.height as usize
     }
 
-    /// How many cells the rectangle has.
-    ///
-    /// Cost: constant.
+    /// Returns how many cells the rectangle has.
     pub fn area(self) -> usize
         ensures area { result ≡ area self }
         ensures in_grid { LiesInGrid self }
@@ -97,18 +87,14 @@ impl Rect {
         self.width as usize * self.height as usize
     }
 
-    /// The cell at the top left.
-    ///
-    /// Cost: constant.
+    /// Returns the cell at the top left.
     pub fn top_left(self) -> Cell
         ensures { result ≡ first_cell self }
     {
         Cell::at(self.left as usize, self.top as usize)
     }
 
-    /// The cell at the bottom right.
-    ///
-    /// Cost: constant.
+    /// Returns the cell at the bottom right.
     pub fn bottom_right(self) -> Cell
         ensures { result ≡ last_cell self }
     {
@@ -117,9 +103,9 @@ impl Rect {
         Cell::at(column, row)
     }
 
-    /// The cells of the rectangle, row by row: just those that it contains, each once.
+    /// Returns a walk of the cells of the rectangle, row by row, each once.
     ///
-    /// Cost: constant, and constant for each cell that the walk gives, without a division.
+    /// Cost: constant for each cell of the walk, without a division.
     pub fn cells(self) -> RectCells
         ensures cells { result ≡ cells_of self }
         ensures inside { (c : ℕ) → list_any (nat_eq c) result ≡ is_inside self c }
@@ -134,9 +120,7 @@ impl Rect {
         }
     }
 
-    /// The cell that lies so many columns from the left side and so many rows from the upper side.
-    ///
-    /// Cost: constant.
+    /// Returns the cell that lies `across` columns from the left side and `down` rows from the upper side.
     pub fn at(self, across: usize, down: usize) -> Cell
         requires across { across < self.width }
         requires down { down < self.height }

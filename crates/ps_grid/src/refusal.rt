@@ -7,8 +7,10 @@ ghost use Rattle.ps_grid.specs.Refusals.{name_of, number_of};
 use std::alloc::{AllocError, AllocFailed};
 use std::fmt;
 
-/// Why a call did nothing. Each has a number, from 1 on, and a name. Its text is the line that tells it, without its
-/// line feed: `err`, the number and the name.
+/// Why a call did nothing.
+///
+/// Each refusal has a number, from 1 on, and a name. Its text is the line that reports it, without the line feed:
+/// `err`, the number and the name.
 #[derive(Clone, Copy, Debug, PartialEq, Eq, PartialOrd, Ord, Hash)]
 pub enum Refusal {
     /// 1: a text that names no cell of the grid.
@@ -47,11 +49,11 @@ pub enum Refusal {
     Version,
     /// 18: a table that is too large or malformed.
     Csv,
-    /// 19: a growth was refused when out of memory.
+    /// 19: out of memory.
     Memory,
     /// 20: a reader or a writer failed.
     Device,
-    /// 21: no reading place was left.
+    /// 21: no session slot is left, or the sheet's published copies are gone or have no reader left.
     Seat,
 }
 
@@ -78,9 +80,7 @@ impl<T: Drop> From<AllocFailed<T>> for Refusal {
 }
 
 impl Refusal {
-    /// The number of the refusal, 1 to 21.
-    ///
-    /// Cost: constant.
+    /// Returns the number of the refusal, 1 to 21.
     pub fn number(&self) -> u8
         ensures { result ≡ number_of self.now }
     {
@@ -109,9 +109,7 @@ impl Refusal {
         }
     }
 
-    /// The name of the refusal.
-    ///
-    /// Cost: constant.
+    /// Returns the name of the refusal.
     pub fn name(&self) -> &'static str
         ensures { result.now ≡ name_of self.now }
     {

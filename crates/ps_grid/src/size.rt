@@ -4,9 +4,9 @@
 //!   letter or two, so there are at most `LETTERS + LETTERS * LETTERS` of them, which is 702.
 //! - `ROWS`: a row is a `u16`, and so is a rectangle's height. In a name its digits follow two letters, so rows stay
 //!   below 10,000 while `NAME_BYTES` is 6.
-//! - `CELLS`: an index is kept in a `u32`. A list with a place for each cell is made when a sheet is opened, and the
-//!   bytes of the largest table that is read in grow with it.
-//! - `NAME_BYTES`: every buffer that a name is written into has as many.
+//! - `CELLS`: an index is stored in a `u32`. Opening a sheet makes a list with a position for each cell. The bytes of
+//!   the largest table that can be read in grow with it.
+//! - `NAME_BYTES`: every buffer for a name has as many bytes.
 //!
 //! So the columns can double and nothing else changes here; with 10,000 rows names get longer.
 

@@ -6,11 +6,11 @@ ghost use Rattle.ps_grid.specs.declared.refusal.Refusal.{Refusal};
 use crate::refusal::Refusal;
 use std::alloc::Global;
 
-/// What can be copied where memory allows.
+/// A value that can be copied, unless memory runs out.
 pub trait Twin: Sized {
-    /// An equal value; refused only when out of memory.
+    /// Returns an equal value; refused only when out of memory.
     ///
-    /// Cost: that of the value's size.
+    /// Cost: at most linear in the size of the value.
     fn twin(&self, alloc: Global) -> Result<Self, Refusal>
         ensures equal { IfOk result (λ t. t ≡ self.now) }
         ensures memory { (e : Refusal) → result ≡ Err e → e ≡ Refusal.Memory };

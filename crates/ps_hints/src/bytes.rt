@@ -1,16 +1,16 @@
 //! Small questions about bytes.
 
-/// Whether a byte is a blank of a formula.
+/// Returns whether a byte is a blank of a formula.
 pub(crate) fn is_blank(byte: u8) -> bool {
     byte == b' ' || byte == b'\t' || byte == b'\n' || byte == b'\r'
 }
 
-/// Whether a byte belongs to a word of a formula: a letter, a digit, or one of `$` and `_`.
+/// Returns whether a byte belongs to a word of a formula: a letter, a digit, or one of `$` and `_`.
 pub(crate) fn is_of_word(byte: u8) -> bool {
     byte.is_ascii_alphanumeric() || byte == b'$' || byte == b'_'
 }
 
-/// The last byte that is no blank.
+/// Returns the last byte that is no blank.
 pub(crate) fn last_filled(text: &[u8]) -> Option<u8> {
     let mut last = None;
     for byte in text {
@@ -21,7 +21,7 @@ pub(crate) fn last_filled(text: &[u8]) -> Option<u8> {
     last
 }
 
-/// The first byte that is no blank.
+/// Returns the first byte that is no blank.
 pub(crate) fn first_filled(text: &[u8]) -> Option<u8> {
     for byte in text {
         if !is_blank(*byte) {
@@ -31,12 +31,12 @@ pub(crate) fn first_filled(text: &[u8]) -> Option<u8> {
     None
 }
 
-/// The bytes as a text; none where they aren't UTF-8.
+/// Returns the bytes as a text; none if they aren't UTF-8.
 pub(crate) fn text_of(bytes: &[u8]) -> Option<&str> {
     str::from_utf8(bytes).ok()
 }
 
-/// The first character, where the bytes are UTF-8 up to its end.
+/// Returns the first character, if the bytes are UTF-8 up to its end.
 pub(crate) fn first_character(bytes: &[u8]) -> Option<&str> {
     for length in 1..5 {
         if let Some(front) = bytes.get(..length) {

@@ -2,7 +2,7 @@
 
 use std::fmt;
 
-/// A text, its ASCII letters in capitals.
+/// A text that is displayed with its ASCII letters in capitals.
 #[derive(Clone, Copy)]
 pub(crate) struct Capitals<'a>(pub(crate) &'a str);
 
@@ -15,7 +15,7 @@ impl fmt::Display for Capitals<'_> {
     }
 }
 
-/// A text, its ASCII letters small.
+/// A text that is displayed with its ASCII letters small.
 #[derive(Clone, Copy)]
 pub(crate) struct Small<'a>(pub(crate) &'a str);
 

@@ -1,4 +1,4 @@
-//! What is at fault in an entry, or what makes it a text.
+//! Finds what is wrong with a refused entry, or what makes an entry a text.
 
 use crate::bytes::text_of;
 use crate::entry_hint::EntryHint;
@@ -17,10 +17,11 @@ const CURRENCIES: [&str; 6] = ["$", "\u{20ac}", "\u{a3}", "\u{a5}", "\u{a2}", "\
 /// Dashes that are no minus sign.
 const DASHES: [&str; 3] = ["\u{2212}", "\u{2013}", "\u{2010}"];
 
-/// The hint about an entry, which was refused so, or was taken: then only where it looks like a number or a formula and
-/// is a text.
+/// Returns the hint about an entry; `refusal` is why it was refused, or none if it was taken.
 ///
-/// Cost: O(n) in the n bytes of the entry, O(n * n) for a refused formula, which has at most 512.
+/// An entry that was taken has a hint only if it is a text that looks like a number or a formula.
+///
+/// Cost: O(n) in the n bytes of the entry; O(n * n) for a refused formula, which has at most 512 bytes.
 pub fn hint_of_entry(entry: &[u8], refusal: Option<Refusal>) -> Option<Hint<'_>> {
     match refusal {
         None => {
@@ -37,7 +38,7 @@ pub fn hint_of_entry(entry: &[u8], refusal: Option<Refusal>) -> Option<Hint<'_>>
     }
 }
 
-/// What is at fault with a refused text.
+/// Returns what is wrong with a refused text.
 fn text_hint(entry: &[u8]) -> EntryHint<'_> {
     let text = entry.strip_prefix(b"'").unwrap_or(entry);
     if text.is_empty() {
@@ -52,7 +53,7 @@ fn text_hint(entry: &[u8]) -> EntryHint<'_> {
     }
 }
 
-/// Why an entry that was taken is a text, where it looks like a number or a formula.
+/// Returns why an entry that was taken is a text, if it looks like a number or a formula.
 fn habit_of(entry: &[u8]) -> Option<Habit> {
     if is_understood(entry) {
         return None;
@@ -73,13 +74,13 @@ fn habit_of(entry: &[u8]) -> Option<Habit> {
     number_habit(trimmed)
 }
 
-/// Whether an entry that was taken says by itself what it is: a number, a formula, a counter, a set, or a text after an
-/// apostrophe.
+/// Returns whether an entry that was taken is what it looks like: a number, a formula, a counter, a set, or a text
+/// after an apostrophe.
 fn is_understood(entry: &[u8]) -> bool {
     is_number_or_formula(entry) || entry.starts_with(b"'")
 }
 
-/// Whether an entry is a number, begins as a formula, or makes a counter or a set.
+/// Returns whether an entry is a number, begins as a formula, or makes a counter or a set.
 fn is_number_or_formula(entry: &[u8]) -> bool {
     entry.starts_with(b"=")
         || entry.starts_with(b"of:=")
@@ -88,7 +89,7 @@ fn is_number_or_formula(entry: &[u8]) -> bool {
         || is_number(entry)
 }
 
-/// Whether an entry is a whole number in range.
+/// Returns whether an entry is a whole number in range.
 fn is_number(entry: &[u8]) -> bool {
     match text_of(entry) {
         Some(text) => text.parse::<i64>().is_ok(),
@@ -96,7 +97,7 @@ fn is_number(entry: &[u8]) -> bool {
     }
 }
 
-/// Whether an entry is `@tally`, `@choice` or the beginning of a formula but for its case.
+/// Returns whether an entry is `@tally` or `@choice`, or begins with `of:=`, in letters of any case.
 fn is_marker_in_capitals(entry: &[u8]) -> bool {
     entry.eq_ignore_ascii_case(b"@tally")
         || entry.eq_ignore_ascii_case(b"@choice")
@@ -105,7 +106,7 @@ fn is_marker_in_capitals(entry: &[u8]) -> bool {
             .is_some_and(|front| front.eq_ignore_ascii_case(b"of:="))
 }
 
-/// Whether an entry looks like a formula without its sign: a function with a parenthesis, or a reference.
+/// Returns whether an entry looks like a formula without its sign: a function with a parenthesis, or a reference.
 fn looks_unsigned(entry: &[u8]) -> bool {
     if entry.starts_with(b"[.") && entry.contains(&b']') {
         return true;
@@ -126,7 +127,7 @@ fn looks_unsigned(entry: &[u8]) -> bool {
     false
 }
 
-/// The text without one of these at its front, where one stands there.
+/// Returns the text without the first of `fronts` that stands at its front; none if none does.
 fn without_front<'a>(text: &'a [u8], fronts: &[&str]) -> Option<&'a [u8]> {
     for front in fronts {
         if let Some(rest) = text.strip_prefix(front.as_bytes()) {
@@ -136,7 +137,7 @@ fn without_front<'a>(text: &'a [u8], fronts: &[&str]) -> Option<&'a [u8]> {
     None
 }
 
-/// The text without one of these at its end, where one stands there.
+/// Returns the text without the first of `ends` that stands at its end; none if none does.
 fn without_end<'a>(text: &'a [u8], ends: &[&str]) -> Option<&'a [u8]> {
     for end in ends {
         if let Some(rest) = text.strip_suffix(end.as_bytes()) {
@@ -146,7 +147,7 @@ fn without_end<'a>(text: &'a [u8], ends: &[&str]) -> Option<&'a [u8]> {
     None
 }
 
-/// What of a text keeps it from being a number, where it looks like one.
+/// Returns what keeps a text from being a number, if it looks like one.
 fn number_habit(text: &[u8]) -> Option<Habit> {
     if let Some(rest) = without_front(text, &DASHES) {
         return looks_numeric(rest).map(|_| Habit::Dash);
@@ -166,8 +167,8 @@ fn number_habit(text: &[u8]) -> Option<Habit> {
     looks_numeric(unsigned)
 }
 
-/// What of a text without sign keeps it from being a number, where it looks like one: digits, with one point, commas or
-/// an exponent. Of digits alone it is their number.
+/// Returns what keeps a text without a sign from being a number, if it looks like one: digits with one point, with
+/// commas or with an exponent. Of digits alone it is their size.
 fn looks_numeric(text: &[u8]) -> Option<Habit> {
     let mut digits = 0;
     let mut points = 0;

@@ -1,20 +1,20 @@
-//! What a hint about an entry that is no formula says.
+//! What a hint says about an entry that is no formula.
 
 use crate::habit::Habit;
 use std::fmt;
 
-/// What to do about an entry that is refused and no formula, or that is kept as a text.
+/// A hint about an entry that is refused and no formula, or that is kept as a text.
 #[derive(Clone, Copy, Debug)]
 pub enum EntryHint<'a> {
-    /// So many bytes, and how many there may be.
+    /// An entry of this many bytes, and the most bytes of one.
     TooLong(usize, usize),
-    /// A byte that no text has.
+    /// A byte that no text may have.
     Control(u8),
-    /// No UTF-8.
+    /// Bytes that aren't UTF-8.
     NotUtf8,
-    /// A text of no byte.
+    /// A text without any byte.
     Empty,
-    /// It is kept as a text.
+    /// An entry that is kept as a text, and why.
     Kept(&'a str, Habit),
 }
 

@@ -1,4 +1,4 @@
-//! What is at fault in a formula that is none.
+//! Finds what is wrong with a refused formula.
 
 use crate::bytes::{first_character, first_filled, is_of_word, last_filled, text_of};
 use crate::formula_hint::FormulaHint;
@@ -6,7 +6,7 @@ use crate::names::{is_corner, is_meant_as_cell, is_nearly_cell};
 use ps_lines::split_part;
 use ps_tokens::{FUNCTIONS, Function};
 
-/// Signs that are written otherwise, the longer ones first.
+/// Signs of other notations and what to write for them, the longer ones first.
 const SIGNS: [(&str, &str); 18] = [
     ("!=", "<>"),
     ("==", "="),
@@ -28,8 +28,9 @@ const SIGNS: [(&str, &str); 18] = [
     ("}", ")"),
 ];
 
-/// The hint about a formula that is none, with its sign `=` or `of:=` at its front: what is at fault at the first
-/// place, from the left, that has a known fault, or else what the whole lacks.
+/// Returns the hint about a refused formula, which has its sign `=` or `of:=` at its front.
+///
+/// It is about the first place from the left with a known fault, or else about what the whole formula lacks.
 pub(crate) fn hint_of_formula(entry: &[u8]) -> FormulaHint<'_> {
     let text = without_sign(entry);
     for start in 0..text.len() {
@@ -41,7 +42,7 @@ pub(crate) fn hint_of_formula(entry: &[u8]) -> FormulaHint<'_> {
     hint_of_whole(text)
 }
 
-/// What follows the sign of a formula.
+/// Returns what follows the sign of a formula.
 fn without_sign(entry: &[u8]) -> &[u8] {
     if let Some(text) = entry.strip_prefix(b"of:=") {
         return text;
@@ -49,7 +50,7 @@ fn without_sign(entry: &[u8]) -> &[u8] {
     entry.strip_prefix(b"=").unwrap_or(entry)
 }
 
-/// What is at fault where the rest begins.
+/// Returns what is wrong where the rest begins.
 fn hint_at<'a>(before: &'a [u8], rest: &'a [u8]) -> Option<FormulaHint<'a>> {
     if is_bracketed(before) {
         return None;
@@ -75,7 +76,7 @@ fn hint_at<'a>(before: &'a [u8], rest: &'a [u8]) -> Option<FormulaHint<'a>> {
     }
 }
 
-/// Whether a bracket is open.
+/// Returns whether a bracket is open at the end of the text.
 fn is_bracketed(before: &[u8]) -> bool {
     let mut open = false;
     for byte in before {
@@ -88,7 +89,7 @@ fn is_bracketed(before: &[u8]) -> bool {
     open
 }
 
-/// The word at the front with the points in it, and what follows it.
+/// Returns the word at the front, with the points in it, and what follows it.
 fn front_word(rest: &[u8]) -> (&[u8], &[u8]) {
     let count = rest
         .iter()
@@ -97,7 +98,7 @@ fn front_word(rest: &[u8]) -> (&[u8], &[u8]) {
     rest.split_at(count)
 }
 
-/// What is at fault with the word that begins here.
+/// Returns what is wrong with the word that begins here.
 fn word_hint(rest: &[u8]) -> Option<FormulaHint<'_>> {
     let (word, after) = front_word(rest);
     let text = text_of(word)?;
@@ -113,7 +114,7 @@ fn word_hint(rest: &[u8]) -> Option<FormulaHint<'_>> {
     name_hint(word, text, first_filled(after) == Some(b'('))
 }
 
-/// What is at fault with a word that begins with a digit.
+/// Returns what is wrong with a word that begins with a digit.
 fn number_hint<'a>(word: &'a [u8], text: &'a str) -> Option<FormulaHint<'a>> {
     if word.contains(&b'.') {
         return Some(FormulaHint::Point(text));
@@ -127,7 +128,7 @@ fn number_hint<'a>(word: &'a [u8], text: &'a str) -> Option<FormulaHint<'a>> {
     }
 }
 
-/// What is at fault with a point that begins here.
+/// Returns what is wrong with a point that begins here.
 fn point_hint(rest: &[u8]) -> Option<FormulaHint<'_>> {
     let (word, _) = front_word(rest);
     let text = text_of(word)?;
@@ -138,7 +139,7 @@ fn point_hint(rest: &[u8]) -> Option<FormulaHint<'_>> {
     Some(FormulaHint::Point(text))
 }
 
-/// What is at fault with a word before a colon.
+/// Returns what is wrong with a word before a colon.
 fn range_hint<'a>(text: &'a str, word: &'a [u8], others: &'a [u8]) -> Option<FormulaHint<'a>> {
     let (last, _) = front_word(others);
     let last = last.strip_prefix(b".").unwrap_or(last);
@@ -148,7 +149,7 @@ fn range_hint<'a>(text: &'a str, word: &'a [u8], others: &'a [u8]) -> Option<For
     Some(FormulaHint::Columns)
 }
 
-/// The function that a name in any case is.
+/// Returns the function with this name, in letters of any case.
 fn function_of(name: &[u8]) -> Option<Function> {
     for function in FUNCTIONS {
         if name.eq_ignore_ascii_case(function.name().as_bytes()) {
@@ -158,7 +159,7 @@ fn function_of(name: &[u8]) -> Option<Function> {
     None
 }
 
-/// What is at fault with a name, which has its arguments in parentheses or none.
+/// Returns what is wrong with a name; `has_arguments` says whether a parenthesis follows it.
 fn name_hint<'a>(word: &'a [u8], text: &'a str, has_arguments: bool) -> Option<FormulaHint<'a>> {
     match function_of(word) {
         Some(_) if has_arguments => None,
@@ -171,7 +172,7 @@ fn name_hint<'a>(word: &'a [u8], text: &'a str, has_arguments: bool) -> Option<F
     }
 }
 
-/// What is at fault with the bracket that begins here.
+/// Returns what is wrong with the bracket that begins here.
 fn bracket_hint<'a>(before: &'a [u8], rest: &'a [u8]) -> Option<FormulaHint<'a>> {
     let (inside, after) = split_part(rest.strip_prefix(b"[")?, b']');
     let Some(after) = after else {
@@ -183,7 +184,7 @@ fn bracket_hint<'a>(before: &'a [u8], rest: &'a [u8]) -> Option<FormulaHint<'a>>
     }
 }
 
-/// What is at fault with what stands in the brackets of a reference.
+/// Returns what is wrong inside the brackets of a reference.
 fn corner_hint(inside: &[u8]) -> Option<FormulaHint<'_>> {
     let name = inside.strip_prefix(b".").unwrap_or(inside);
     let text = text_of(name)?;
@@ -202,7 +203,7 @@ fn corner_hint(inside: &[u8]) -> Option<FormulaHint<'_>> {
     Some(FormulaHint::Reference("A1"))
 }
 
-/// What is at fault with the two corners in the brackets of a range.
+/// Returns what is wrong with the two corners in the brackets of a range.
 fn corners_hint<'a>(first: &'a [u8], last: &'a [u8]) -> Option<FormulaHint<'a>> {
     match (corner_hint(first), corner_hint(last)) {
         (None, None) => None,
@@ -218,7 +219,7 @@ fn corners_hint<'a>(first: &'a [u8], last: &'a [u8]) -> Option<FormulaHint<'a>> 
     }
 }
 
-/// What is at fault with the place of a range.
+/// Returns what is wrong with the place of a range.
 fn alone_hint<'a>(before: &'a [u8], after: &'a [u8]) -> Option<FormulaHint<'a>> {
     let begins = match last_filled(before) {
         Some(b'(') => takes_ranges(before),
@@ -235,7 +236,7 @@ fn alone_hint<'a>(before: &'a [u8], after: &'a [u8]) -> Option<FormulaHint<'a>> 
     Some(FormulaHint::RangeAlone)
 }
 
-/// Whether a function that takes ranges stands before the parenthesis at the end.
+/// Returns whether a function that takes ranges stands before the parenthesis at the end.
 fn takes_ranges(before: &[u8]) -> bool {
     let call = before.trim_ascii();
     let name = call.strip_suffix(b"(").unwrap_or(call).trim_ascii();
@@ -244,7 +245,7 @@ fn takes_ranges(before: &[u8]) -> bool {
         .any(|due| ends_as(name, due))
 }
 
-/// Whether a text ends with this one, in any case.
+/// Returns whether a text ends with this one, in letters of any case.
 fn ends_as(text: &[u8], end: &[u8]) -> bool {
     if text.len() < end.len() {
         return false;
@@ -252,7 +253,7 @@ fn ends_as(text: &[u8], end: &[u8]) -> bool {
     text[text.len() - end.len()..].eq_ignore_ascii_case(end)
 }
 
-/// What is at fault with an argument that ends here.
+/// Returns what is wrong with an argument that ends here.
 fn argument_hint<'a>(before: &'a [u8], sign: u8) -> Option<FormulaHint<'a>> {
     match last_filled(before) {
         Some(b';') => Some(FormulaHint::MissingArgument),
@@ -262,7 +263,7 @@ fn argument_hint<'a>(before: &'a [u8], sign: u8) -> Option<FormulaHint<'a>> {
     }
 }
 
-/// What is at fault with a sign that begins here.
+/// Returns what is wrong with a sign that begins here.
 fn sign_hint(rest: &[u8]) -> Option<FormulaHint<'_>> {
     for (sign, due) in SIGNS {
         if rest.starts_with(sign.as_bytes()) {
@@ -276,7 +277,7 @@ fn sign_hint(rest: &[u8]) -> Option<FormulaHint<'_>> {
     }
 }
 
-/// What is at fault with a formula whose places are each without fault.
+/// Returns what is wrong with a formula that has no fault at any single place.
 fn hint_of_whole(text: &[u8]) -> FormulaHint<'_> {
     let opened = text.iter().filter(|byte| **byte == b'(').count();
     let closed = text.iter().filter(|byte| **byte == b')').count();

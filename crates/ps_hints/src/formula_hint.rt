@@ -1,11 +1,11 @@
-//! What a hint about a formula says.
+//! What a hint says about a formula.
 
 use crate::case::Capitals;
 use ps_formula::LONGEST_TEXT;
 use ps_tokens::FUNCTIONS;
 use std::fmt;
 
-/// What to do about a formula that is none.
+/// A hint about a refused formula, by what is wrong with it.
 #[derive(Clone, Copy, Debug)]
 pub enum FormulaHint<'a> {
     /// A cell without brackets.
@@ -18,13 +18,13 @@ pub enum FormulaHint<'a> {
     Range(&'a str, &'a str),
     /// A name of another sheet.
     OtherSheet,
-    /// Whole columns or rows.
+    /// Whole columns or whole rows.
     Columns,
-    /// A range that is no argument.
+    /// A range that is no argument of a function.
     RangeAlone,
-    /// A cell that the grid doesn't have.
+    /// A cell outside of the grid.
     Outside(&'a str),
-    /// A name that no function has.
+    /// A name that isn't a function's.
     UnknownFunction(&'a str),
     /// A function without parentheses.
     NoArguments(&'a str),
@@ -38,23 +38,23 @@ pub enum FormulaHint<'a> {
     Letters(&'a str),
     /// A numeral that is too large.
     Large(&'a str),
-    /// A text.
+    /// A text in quotes.
     Quote,
-    /// A sign that is written otherwise.
+    /// A sign of another notation, and what to write for it.
     Sign(&'static str, &'static str),
     /// A sign that no formula has.
     NoSign(&'a str),
-    /// An argument that is missing.
+    /// A missing argument.
     MissingArgument,
     /// A bracket or a parenthesis that isn't closed.
     Unclosed(char),
     /// A bracket or a parenthesis that is closed and wasn't opened.
     Unopened(char),
-    /// An end where something is missing.
+    /// A formula that ends before it is complete.
     Unfinished,
     /// Anything else.
     Notation,
-    /// A canonical text that is too long.
+    /// A formula whose canonical text is too long.
     Long,
 }
 

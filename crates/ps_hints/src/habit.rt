@@ -15,7 +15,7 @@ pub enum Habit {
     Currency,
     /// A percent sign.
     Percent,
-    /// Whole, and out of range.
+    /// A whole number out of range.
     Large,
     /// An exponent.
     Exponent,
@@ -25,7 +25,7 @@ pub enum Habit {
     Unsigned,
     /// A truth value.
     Truth,
-    /// `@tally`, `@choice` or `of:=` in other cases.
+    /// `@tally`, `@choice` or `of:=` in letters of another case.
     Capitals,
 }
 

@@ -1,4 +1,4 @@
-//! What a hint is.
+//! Hints.
 
 use crate::entry_hint::EntryHint;
 use crate::formula_hint::FormulaHint;

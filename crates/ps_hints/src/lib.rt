@@ -1,18 +1,18 @@
-//! Words that help: what to do about a line or an entry that is refused, and about an entry that looks like a number or
-//! a formula and is kept as a text.
+//! Hints: what to do about a refused line or entry, and about an entry that looks like a number or a formula but is a
+//! text.
 //!
-//! It is not the judge: whether a line is refused, and why, it is told. It looks for what people write by habit, as
-//! `A1` for `[.A1]`, and so a hint may miss what was meant. It promises nothing but to be safe and to end, and takes no
-//! memory.
+//! A hint doesn't decide whether a line is refused, or why: the caller passes the refusal. It looks for what people
+//! write by habit, such as `A1` for `[.A1]`, so it may miss what was meant. These functions have no contract: they are
+//! safe, they end, and they take no memory.
 //!
-//! The functions to use: [`line_note`] says where a line of a session stands and what to do about it, [`field_note`]
-//! the same of a field of a table, and [`record_note`] of a whole record. Their results are texts by `Display`.
+//! - [`line_note`] says where a line of a session stands, and what to do about it.
+//! - [`field_note`] says the same of a field of a table, and [`record_note`] of a whole record.
 //!
-//! The 291st line `set B1 =A1+1`, which is refused as a formula, has the note
-//! `line 291: err 3 formula: A1 is written [.A1]`; the twelfth line `set B1 12.50`, which is carried out, has the note
+//! Their results are texts by `Display`. For example, line 291 is `set B1 =A1+1`, which is refused as a formula. Its
+//! note is `line 291: err 3 formula: A1 is written [.A1]`. Line 12 is `set B1 12.50`, which is carried out. Its note is
 //! `line 12: 12.50 is kept as a text: numbers are whole`.
 //!
-//! Cost: O(n) in the n bytes of the line or the field, O(n * n) in those of a refused formula, which has at most 512.
+//! Cost: O(n) in the n bytes of the line or the field; O(n * n) for a refused formula, which has at most 512 bytes.
 #![tactic(auto)]
 
 mod bytes;

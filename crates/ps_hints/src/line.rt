@@ -1,4 +1,4 @@
-//! What is at fault in a line of a session, or in the entry that it sets.
+//! Finds what is wrong with a line of a session, or with the entry that it sets.
 
 use crate::bytes::text_of;
 use crate::entry::hint_of_entry;
@@ -8,10 +8,12 @@ use crate::names::is_nearly_cell;
 use ps_grid::Refusal;
 use ps_lines::{Verb, split_part, split_word};
 
-/// The hint about a line, which was refused so, or was carried out: then only where the entry that it sets looks like a
-/// number or a formula and is a text.
+/// Returns the hint about a line; `refusal` is why it was refused, or none if it was carried out.
 ///
-/// Cost: O(n) in the n bytes of the line, O(n * n) in those of a refused formula, which has at most 512.
+/// A line that was carried out has a hint only if the entry that it sets is a text that looks like a number or a
+/// formula.
+///
+/// Cost: O(n) in the n bytes of the line; O(n * n) for a refused formula, which has at most 512 bytes.
 pub fn hint_of_line(line: &[u8], refusal: Option<Refusal>) -> Option<Hint<'_>> {
     match refusal {
         None | Some(Refusal::Text | Refusal::Formula | Refusal::TooLong) => {
@@ -25,7 +27,7 @@ pub fn hint_of_line(line: &[u8], refusal: Option<Refusal>) -> Option<Hint<'_>> {
     }
 }
 
-/// The entry of a line that sets a cell.
+/// Returns the entry of a line that sets a cell.
 fn entry_of(line: &[u8]) -> Option<&[u8]> {
     let (verb, rest) = split_word(line);
     let Some(Verb::Set) = Verb::read(verb) else {
@@ -35,7 +37,7 @@ fn entry_of(line: &[u8]) -> Option<&[u8]> {
     entry
 }
 
-/// What is at fault with the words of a line, or with what it asks of the sheet.
+/// Returns what is wrong with the words of a line, or with what it asks of the sheet.
 fn words_hint(line: &[u8], refusal: Refusal) -> LineHint<'_> {
     let (verb, rest) = split_word(line);
     let rest = rest.unwrap_or(b"");
@@ -68,7 +70,7 @@ fn words_hint(line: &[u8], refusal: Refusal) -> LineHint<'_> {
     }
 }
 
-/// What is at fault with the first word of a line, or with the number of its words.
+/// Returns what is wrong with the first word of a line, or with the number of its words.
 fn command_hint<'a>(line: &'a [u8], word: &'a [u8]) -> LineHint<'a> {
     if line.starts_with(b" ") || line.ends_with(b" ") {
         return LineHint::Spaces;
@@ -90,7 +92,7 @@ fn command_hint<'a>(line: &'a [u8], word: &'a [u8]) -> LineHint<'a> {
     LineHint::UnknownVerb(text)
 }
 
-/// What is at fault with a line whose verb is known: a space too many, or another form.
+/// Returns what is wrong with a line whose verb is known: a space too many, or another form.
 fn form_hint<'a>(line: &'a [u8], verb: Verb) -> LineHint<'a> {
     let mut last = b'x';
     for byte in line {
@@ -102,7 +104,7 @@ fn form_hint<'a>(line: &'a [u8], verb: Verb) -> LineHint<'a> {
     LineHint::Form(verb)
 }
 
-/// Whether a line of this verb names a rectangle, and not a cell.
+/// Returns whether a line of this verb names a rectangle, and not a cell.
 fn names_rectangle(verb: Verb) -> bool {
     match verb {
         Verb::Rows | Verb::Entries => true,
@@ -116,11 +118,12 @@ fn names_rectangle(verb: Verb) -> bool {
         | Verb::Push
         | Verb::Merge
         | Verb::Pull
-        | Verb::Replica => false,
+        | Verb::Replica
+        | Verb::Wait => false,
     }
 }
 
-/// What is at fault with the word for a cell or a rectangle.
+/// Returns what is wrong with the word for a cell or a rectangle.
 fn cell_hint<'a>(verb: &'a [u8], word: &'a [u8]) -> LineHint<'a> {
     if word.is_empty() {
         return LineHint::Spaces;
@@ -134,7 +137,7 @@ fn cell_hint<'a>(verb: &'a [u8], word: &'a [u8]) -> LineHint<'a> {
     name_hint(word)
 }
 
-/// What is at fault with the name of a cell.
+/// Returns what is wrong with the name of a cell.
 fn name_hint(word: &[u8]) -> LineHint<'_> {
     if word.starts_with(b"[") || word.contains(&b'$') {
         return LineHint::PlainCell;
@@ -145,7 +148,7 @@ fn name_hint(word: &[u8]) -> LineHint<'_> {
     }
 }
 
-/// What is at fault with a rectangle.
+/// Returns what is wrong with a rectangle.
 fn rectangle_hint(word: &[u8]) -> LineHint<'_> {
     let (first, last) = split_part(word, b':');
     let Some(last) = last else {
@@ -160,7 +163,7 @@ fn rectangle_hint(word: &[u8]) -> LineHint<'_> {
     LineHint::NoCell
 }
 
-/// The corner that has small letters.
+/// Returns the corner that has small letters.
 fn word_of_case<'a>(word: &'a [u8], first: &'a [u8], last: &'a [u8]) -> &'a [u8] {
     if word.contains(&b'$') {
         return word;
@@ -172,7 +175,7 @@ fn word_of_case<'a>(word: &'a [u8], first: &'a [u8], last: &'a [u8]) -> &'a [u8]
     }
 }
 
-/// What is at fault with an amount.
+/// Returns what is wrong with an amount.
 fn amount_hint(word: &[u8]) -> LineHint<'_> {
     if word.starts_with(b"-") || word.starts_with(b"+") {
         return LineHint::Negative;
@@ -183,7 +186,7 @@ fn amount_hint(word: &[u8]) -> LineHint<'_> {
     }
 }
 
-/// What is at fault with an option.
+/// Returns what is wrong with an option.
 fn option_hint(word: &[u8]) -> LineHint<'_> {
     match text_of(word) {
         Some(text) if word.contains(&b'.') => LineHint::Point(text),

@@ -1,4 +1,4 @@
-//! What a hint about the words of a line says.
+//! What a hint says about the words of a line.
 
 use crate::case::{Capitals, Small};
 use ps_grid::REPLICAS;
@@ -6,20 +6,20 @@ use ps_lattice::{AMOUNT_LIMIT, COUNT_LIMIT, OPTIONS, SEQUENCES};
 use ps_lines::Verb;
 use std::fmt;
 
-/// What to do about a line whose words are refused, or that the sheet refuses.
+/// A hint about a line whose words are refused, or that the sheet refuses.
 #[derive(Clone, Copy, Debug)]
 pub enum LineHint<'a> {
-    /// A word that is written in capitals.
+    /// A word that has to be in capitals.
     InCapitals(&'a str),
-    /// A verb that is written in small letters.
+    /// A verb that has to be in small letters.
     InSmall(&'a str),
-    /// A word that is no verb.
+    /// A first word that is no verb.
     UnknownVerb(&'a str),
-    /// No verb.
+    /// A line without a verb.
     NoVerb,
-    /// How a line of this verb is written.
+    /// Another form than lines of this verb have.
     Form(Verb),
-    /// A word that is empty.
+    /// An empty word: a space too many.
     Spaces,
     /// A word that names no cell.
     NoCell,
@@ -43,33 +43,33 @@ pub enum LineHint<'a> {
     TallyFull,
     /// A set whose sequences are used up.
     ChoiceFull,
-    /// An option that isn't in.
+    /// An option that isn't in the set.
     NotChosen,
-    /// A register with the last time.
+    /// A register whose clock has its last time.
     ClockFull,
-    /// A line of a delta that is none.
+    /// A `push` or `merge` whose rest is no line of a delta.
     NoDelta,
-    /// A reply where the line of a delta is due.
+    /// A reply instead of the line of a delta.
     WholeReply,
-    /// A delta that no line holds.
+    /// A delta that has no line, as it is too long.
     LongDelta,
     /// A line that is too long.
     LongLine,
-    /// A version, or a size of a group, that is none.
+    /// No version, or no size of a group.
     NoVersion,
     /// The number of a replica out of range, or none.
     Replica,
-    /// A table with too many records.
+    /// A table with more than this many records.
     Records(usize),
-    /// A record with too many fields.
+    /// A record with more than this many fields.
     Fields(usize),
-    /// No memory.
+    /// A line that was refused as out of memory.
     NoMemory,
-    /// Something outside of the sheet.
+    /// A refusal whose cause is not in the line.
     Outside,
 }
 
-/// How a line of a verb is written.
+/// Returns how a line of a verb is written.
 fn form_of(verb: Verb) -> &'static str {
     match verb {
         Verb::Get => "get <cell>",
@@ -85,6 +85,7 @@ fn form_of(verb: Verb) -> &'static str {
         Verb::Merge => "merge <delta line>",
         Verb::Pull => "pull <from> or pull <from> <most>",
         Verb::Replica => "replica or replica <number>",
+        Verb::Wait => "wait <number>",
     }
 }
 

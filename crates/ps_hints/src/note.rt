@@ -1,4 +1,4 @@
-//! A hint with the place that it is about.
+//! A hint with its place.
 
 use crate::entry::hint_of_entry;
 use crate::hint::Hint;
@@ -7,31 +7,33 @@ use crate::line_hint::LineHint;
 use ps_grid::{COLUMNS, Cell, NAME_BYTES, ROWS, Refusal};
 use std::fmt;
 
-/// Where a line or an entry stands.
+/// The place of a line or an entry.
 #[derive(Clone, Copy, Debug)]
 pub enum HintPlace {
-    /// In a line, counted from 1.
+    /// A line, counted from 1.
     Line(u64),
-    /// In the field of a table that is for this cell.
+    /// The field of a table for this cell.
     Field(Cell),
-    /// In a record of a table, counted from 1.
+    /// A record of a table, counted from 1.
     Record(u64),
 }
 
-/// Where a line or an entry stands, why it was refused, if it was, and what to do about it. Its text is one line,
-/// without its line feed.
+/// A hint with its place and the refusal. Its text is one line, without its line feed.
 #[derive(Clone, Copy, Debug)]
 pub struct HintNote<'a> {
-    /// Where.
+    /// The place of the line or the entry.
     pub place: HintPlace,
-    /// Why it was refused, where it was.
+    /// Why it was refused; none if it was taken.
     pub refusal: Option<Refusal>,
     /// What to do.
     pub hint: Hint<'a>,
 }
 
-/// The note about a line of this number, which was refused so, or was carried out: then only where the entry that it
-/// sets looks like a number or a formula and is a text.
+/// Returns the note about line `number`, counted from 1; `refusal` is why it was refused, or none if it was carried
+/// out.
+///
+/// A line that was carried out has a note only if the entry that it sets is a text that looks like a number or a
+/// formula.
 ///
 /// Cost: that of [`hint_of_line`].
 pub fn line_note(number: u64, line: &[u8], refusal: Option<Refusal>) -> Option<HintNote<'_>> {
@@ -42,8 +44,9 @@ pub fn line_note(number: u64, line: &[u8], refusal: Option<Refusal>) -> Option<H
     })
 }
 
-/// The note about a field for this cell, whose entry was refused so, or was taken: then only where it looks like a
-/// number or a formula and is a text.
+/// Returns the note about the field for a cell; `refusal` is why its entry was refused, or none if it was taken.
+///
+/// An entry that was taken has a note only if it is a text that looks like a number or a formula.
 ///
 /// Cost: that of [`hint_of_entry`].
 pub fn field_note(cell: Cell, field: &[u8], refusal: Option<Refusal>) -> Option<HintNote<'_>> {
@@ -54,9 +57,7 @@ pub fn field_note(cell: Cell, field: &[u8], refusal: Option<Refusal>) -> Option<
     })
 }
 
-/// The note about a record of this number, counted from 1, that lies outside of the grid or has too many fields.
-///
-/// Cost: constant.
+/// Returns the note about record `number`, counted from 1, which lies outside of the grid or has too many fields.
 pub fn record_note<'a>(number: u64) -> HintNote<'a> {
     let hint = if number > ROWS as u64 {
         LineHint::Records(ROWS)

@@ -1,4 +1,4 @@
-//! How many spans of a column are kept up to each row.
+//! How many spans of a column are stored up to each row.
 
 ghost use Rattle.std.specs.Prelude.{◌≡◌, ℕ, ◌+◌, ◌-◌, ◌^◌, ◌<◌, ◌≤◌, cond, nat_le, length, get_or, max, min};
 ghost use Rattle.std.specs.Prelude.{IfOk, IfErr, vec_capacity};
@@ -18,9 +18,9 @@ pub(crate) struct Places {
     pub(crate) to: u32,
 }
 
-/// How many spans of a column are kept up to each row. A contract sees it as the list of these counts, from row 0 on.
+/// How many spans of a column are stored up to each row. A contract sees it as the list of these counts, from row 0 on.
 ///
-/// They are written down up to the last row at which a span was ever kept. Each row after that has its count.
+/// They are written up to the last row at which a span was ever stored. Each row after that has its count.
 #[derive(Drop)]
 pub(crate) struct RowCounts {
     /// the counts of the rows from 0 up to the last one; there is room for all
@@ -41,7 +41,7 @@ impl Model for RowCounts {
 }
 
 impl RowCounts {
-    /// The counts where no span is kept. Refused only when out of memory.
+    /// The counts where no span is stored. Fails only when out of memory.
     pub(crate) fn new(alloc: Global) -> Result<RowCounts, Refusal>
         ensures size { IfOk result (λ c. length c ≡ ROWS + 1) }
         ensures none { IfOk result (λ c. (j : ℕ) → j ≤ ROWS → get_or c j 0 ≡ 0) }
@@ -52,7 +52,7 @@ impl RowCounts {
         Ok(RowCounts { ends })
     }
 
-    /// Where the spans stand that are kept at a row.
+    /// Where the spans stand that are stored at a row.
     #[inline(always)]
     pub(crate) fn kept_at(&self, row: usize) -> Places
         requires some { 1 ≤ row }
@@ -83,7 +83,7 @@ impl RowCounts {
         raise_from(&mut self.ends, row);
     }
 
-    /// Counts one less at the row, at which a span is kept, and at each row after it.
+    /// Counts one less at the row, at which a span is stored, and at each row after it.
     pub(crate) fn lower(&mut self, row: usize)
         requires in_grid { row ≤ ROWS }
         requires there { get_or self.old (row - 1) 0 < get_or self.old row 0 }
@@ -96,7 +96,7 @@ impl RowCounts {
     }
 }
 
-/// Writes down the counts of the rows up to this one: those after the last one have the count of that.
+/// Writes the counts of the rows up to this one: those after the last one have the count of that.
 fn extend(ends: &mut Vec<u32>, row: usize)
     requires some { 0 < length ends.old.items }
     requires room { row < vec_capacity ends.old }

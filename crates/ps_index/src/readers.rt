@@ -1,10 +1,10 @@
-//! The cells that refer to a cell, by what an index has noted of them.
+//! The cells that refer to a cell, by the cheapest way to list them.
 
 use crate::row::RowReaders;
 use crate::two_rows::TwoRowReaders;
 use ps_grid::Cell;
 
-/// The cells that refer to a cell, as far as they are found at two rows of spans at most.
+/// The cells that refer to a cell, if their spans are stored at two rows at most.
 #[derive(Drop)]
 pub enum Readers<'a> {
     /// No cell refers to it.
@@ -13,8 +13,8 @@ pub enum Readers<'a> {
     One(Cell),
     /// These cells refer to it, and no others.
     Row(RowReaders<'a>),
-    /// These cells refer to it, and no others; their spans are kept at two rows.
+    /// These cells refer to it, and no others; their spans are stored at two rows.
     TwoRows(TwoRowReaders<'a>),
-    /// Several cells may refer to it, or one, or none.
+    /// Several cells may refer to it, or one, or none: `Index::dependents` walks them.
     Several,
 }

@@ -13,8 +13,8 @@ use crate::span::Span;
 use ps_grid::{Cell, ROWS};
 use std::marker::Model;
 
-/// A walk of the cells that refer to a cell of a column without ranges: in order, and so each once. A contract sees it
-/// as the list of those that are still to come.
+/// A walk of the cells that refer to a cell of a column without ranges, in order and each once. A contract sees it as
+/// the list of those that are still to come.
 ///
 /// Cost: a step looks at one span, and at one more for each further formula of a cell that came already.
 #[derive(Drop)]

@@ -1,7 +1,7 @@
 //! The rows that a formula refers to, run by run.
 //!
-//! The rows of all columns stand in one line of places: column by column, in each a place that no formula refers to
-//! and then the rows from 1 on. So a run of places never goes from one column into the next.
+//! The rows of all columns stand in one line of places, column by column. Each column begins with a place that no
+//! formula refers to, and its rows follow. So a run of places never goes from one column into the next.
 
 ghost use Rattle.std.specs.Prelude.{◌≡◌, ℕ, ◌+◌, ◌*◌, ◌/◌, ◌%◌, ◌<◌, ◌≤◌, true, false};
 ghost use Rattle.ps_grid.specs.Rectangle.{LiesInGrid};
@@ -115,7 +115,7 @@ pub(crate) fn next_run(rects: &[Rect], place: usize) -> Run
 {
     let mut from = PLACES;
     let mut end = PLACES;
-    // where the first run begins of the others
+    // the least beginning among the other runs
     let mut other = PLACES;
     for rect in rects {
         let run = first_run(*rect, place);
@@ -165,7 +165,7 @@ fn passed(rect: Rect, place: usize) -> usize
     }
 }
 
-/// A place up to which all is covered from this one on; this one only where it isn't covered.
+/// A place up to which all is covered from `place` on; `place` itself only if it isn't covered.
 fn passed_all(rects: &[Rect], place: usize) -> usize
     requires place { place ≤ PLACES }
     ensures from { place ≤ result }

@@ -1,4 +1,4 @@
-//! The walk of the cells that refer to a row of a column where all spans of several rows are kept at one level.
+//! The walk of the cells that refer to a row of a column where all spans of several rows are stored at one level.
 
 ghost use Rattle.std.specs.Prelude.{◌≡◌, ℕ, ◌+◌, ◌<◌, ◌≤◌, length, min};
 ghost use Rattle.std.specs.Iterator.{YieldsFirst, item_count};
@@ -15,16 +15,18 @@ use crate::walk::passed;
 use ps_grid::{CELLS, Cell, ROWS};
 use std::marker::Model;
 
-/// What is left of a run of spans: the place of its first one, and the cell of that; `CELLS` where nothing is left.
+/// The first span left of a run: its place, and its cell, which is `CELLS` if nothing is left.
 #[derive(Clone, Copy)]
 struct Head {
     place: usize,
     cell: usize,
 }
 
-/// A walk of the cells that refer to a row of a column whose ranges are all kept at one level of rows: in order, and so
-/// each once. Their spans are kept at the row itself, and at the one row of that level which is above it in the tree. A
-/// contract sees it as the list of those that are still to come.
+/// A walk of the cells that refer to a row of a column whose ranges are all stored at one level, in order and each
+/// once.
+///
+/// Their spans are stored at the row itself, and at the one row of that level which is above it in the tree. A contract
+/// sees the walk as the list of those that are still to come.
 ///
 /// Cost: a step looks at the spans that it passes over: that of its cell, others of cells that came already, and such
 /// as don't have the row.
@@ -34,11 +36,11 @@ pub struct TwoRowReaders<'a> {
     spans: &'a [Span],
     /// the row that is referred to
     row: usize,
-    /// of the spans that are kept at the row itself, the first that is left and has the row
+    /// of the spans stored at the row itself, the first that is left and has the row
     own: Head,
     /// the place after the last of these
     own_end: usize,
-    /// of the spans that are kept at the row above it, the first that is left and has the row
+    /// of the spans stored at the row above it, the first that is left and has the row
     upper: Head,
     /// the place after the last of these
     upper_end: usize,
@@ -59,8 +61,8 @@ impl<'a> Model for TwoRowReaders<'a> {
 }
 
 impl<'a> TwoRowReaders<'a> {
-    /// The walk of the cells that refer to a row, at its beginning. Ranges are kept at one level alone, and `key` is
-    /// its row on the way down to this one.
+    /// The walk of the cells that refer to a row, at its beginning. Ranges are stored at one level alone, and `key` is
+    /// the row of that level on the way down to this one.
     #[inline(always)]
     pub(crate) fn new(
         spans: &'a [Span],
@@ -127,7 +129,7 @@ fn head_from(spans: &[Span], row: usize, least: usize, from: usize, to: usize) -
     }
 }
 
-/// What is left of a run after the cell `first` came, which none that is left is below.
+/// The head of a run after the cell `first` came; no cell that is left is below that one.
 #[inline(always)]
 fn past(spans: &[Span], row: usize, first: usize, head: Head, end: usize) -> Head
     requires at { IsAt spans.now row head.place end head.cell }

@@ -1,4 +1,4 @@
--- What a crash may leave of a file.
+-- The file after a crash.
 use Rattle.std.specs.Prelude.{◌≡◌, ◌≤◌, ℕ, List, length, take}
 use mathlib.Core.List.{IsPrefix}
 use Rattle.ps_keep.specs.Lines.{whole_lines}
@@ -19,12 +19,12 @@ pub record StandsBetween (acknowledged noted read : List (List ℕ)) : Type 0 wh
   pub all_acknowledged : IsPrefix acknowledged read
   pub nothing_else : IsPrefix read noted
 
--- whatever a crash leaves of these bytes stands between
+-- every file after a crash stands between
 abbrev pub SurvivesCrashes : List ℕ → ℕ → List (List ℕ) → List (List ℕ) → Type 0
 SurvivesCrashes written synced acknowledged noted =
     (left : List ℕ) → IsLeft written synced left → StandsBetween acknowledged noted (whole_lines left)
 
--- where the end is torn too, what was acknowledged is still read first
+-- if the end is torn too, what was acknowledged is still read first
 abbrev pub SurvivesTears : List ℕ → ℕ → List (List ℕ) → Type 0
 SurvivesTears written synced acknowledged =
     (left : List ℕ) → IsTorn written synced left → IsPrefix acknowledged (whole_lines left)

@@ -8,21 +8,21 @@ pub record JournalView : Type 0 where
   pub kept : List (List ℕ)
   -- all that were noted, in order
   pub lines : List (List ℕ)
-  -- what the file was given, and how much of it is on the disk
+  -- what was written to the file, and how much of it is on the disk
   pub written : List ℕ
   pub synced : ℕ
   pub has_failed : Bool
-  -- what whoever reads the file next finds, unless the machine crashes before
+  -- what the next reader of the file finds, unless the machine crashes before
   pub found : List ℕ
   -- a call failed, and the file couldn't be cut after it
   pub cut_failed : Bool
 
--- the bytes of a file, or after it was cut those that are on the disk
+-- the bytes of a file, or after a cut those that are on the disk
 abbrev pub found_of : List ℕ → ℕ → Bool → List ℕ
 found_of written synced is_cut = if is_cut then take synced written else written
 
--- JOURNAL: what is acknowledged is a beginning of what was noted and is on the disk; the file has a beginning of what
--- was noted, and nothing else; after a call that failed, and a cut that didn't, it has what is acknowledged alone
+-- JOURNAL: the acknowledged lines are a beginning of the noted ones and are on the disk. The file has a beginning of
+-- the noted lines, and nothing else. After a failed call, if the cut didn't fail, it has the acknowledged lines alone
 pub record IsJournal (j : JournalView) : Type 0 where
   pub each : AreLines j.lines
   pub begins : IsPrefix j.kept j.lines
@@ -38,8 +38,7 @@ pub record IsWhole (bytes : List ℕ) : Type 0 where
   pub each : AreLines lines
   pub is : bytes ≡ text lines
 
--- what a journal is made of: the file as it was after the last sync, the bytes that wait since then, and the file
--- as it is
+-- the parts of a journal: the file as it was after the last sync, the bytes that wait since then, and the file as it is
 pub record Holds (durable waiting written : List ℕ) (safe : ℕ) (has_failed is_cut cut_failed : Bool) : Type 0 where
   pub whole : IsWhole durable
   pub waits : IsWhole waiting

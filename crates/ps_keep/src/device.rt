@@ -24,7 +24,7 @@ pub trait Device {
 
     /// Appends these bytes, or a beginning of them where it fails.
     ///
-    /// Cost: linear in the bytes, but for the time that the device takes.
+    /// Cost: linear in the bytes, and the time that the device takes.
     fn append(&mut self, bytes: &[u8]) -> Result<(), Failed>
         requires open { has_failed self.old ≡ false }
         ensures appended { OnOk result (written self.new ≡ written self.old ++ bytes.now) }
@@ -45,8 +45,10 @@ pub trait Device {
         ensures failed { has_failed self.new ≡ is_err result }
         ensures cut { (is_cut self.new ≡ is_cut self.old) × (cut_failed self.new ≡ cut_failed self.old) };
 
-    /// Cuts the file to the bytes that are on the disk, after a call that failed; but not where it has others than
-    /// those written. A crash of the machine may still leave what was written.
+    /// Cuts the file to the bytes that are on the disk, after a call that failed.
+    ///
+    /// It doesn't cut a file that has other bytes than those written. If the machine crashes later, the file may still
+    /// have what was written.
     ///
     /// Cost: the time that the device takes.
     fn cut(&mut self) -> Result<(), Failed>
@@ -71,8 +73,8 @@ pub trait Found {
     fn bytes(&self) -> &[u8]
         ensures { result.now ≡ bytes self.now };
 
-    /// Cuts the file to its first bytes, has these on the disk, and opens it for appending. A crash meanwhile leaves a
-    /// beginning of the file that has at least these bytes.
+    /// Cuts the file to its first `count` bytes, syncs it, and opens it for appending. If the machine crashes
+    /// meanwhile, the file is a beginning of what it was, with at least these bytes.
     ///
     /// Cost: the time that the device takes.
     fn keep(self, count: usize) -> Result<Self::Device, Failed>

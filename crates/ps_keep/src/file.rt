@@ -139,7 +139,7 @@ impl Found for FoundFile {
     }
 }
 
-/// A file that is appended to. What clauses say of it is what its calls were told: that the system does what it tells
+/// A file that is appended to. Its clauses say what the system's calls returned; that the system does what it returns
 /// is trusted.
 #[derive(Drop)]
 pub struct KeptFile {

@@ -106,12 +106,12 @@ impl<D: Device + Drop> Journal<D> {
         Ok(())
     }
 
-    /// Has all lines that were noted on the disk, and acknowledges them. Where nothing was noted since the last time,
-    /// the device isn't called.
+    /// Syncs all lines that were noted, and acknowledges them. If none was noted since the last sync, it doesn't call
+    /// the device.
     ///
-    /// Fails where the device does, and from then on always. Then the file is cut to the lines that were acknowledged.
-    /// Whatever it comes to, and whenever in it a crash comes, the file has all lines that were acknowledged before,
-    /// and a beginning of those that were noted.
+    /// Fails if the device does, and from then on always. After a failure it tries to cut the file to the acknowledged
+    /// lines. At any moment of the call, also if the machine crashes, the file has all lines that were acknowledged
+    /// before, and after them a beginning of those that were noted.
     ///
     /// Cost: one append and one sync.
     pub fn sync(&mut self) -> Result<(), Failed>

@@ -1,28 +1,33 @@
 //! A journal: lines that outlive a crash.
 //!
-//! A [`Journal`] is a file that lines are appended to. A line is noted first, and acknowledged once a sync has all
-//! that were noted on the disk: so one sync serves many lines. At the start [`first_line`] reads the whole lines of the
-//! file one after another, and [`open`] makes it a journal; a piece after the last line feed, which a crash amid a
-//! write has left, is cut off.
+//! A [`Journal`] is a file that lines are appended to. A line is noted first, and acknowledged after a sync of all that
+//! were noted; so one sync serves many lines. At the start [`first_line`] reads the whole lines of the file one after
+//! another. Then [`open`] makes it a journal, and cuts off a piece after the last line feed, left by a crash during a
+//! write.
 //!
-//! It is not the sheet: it knows no deltas and no replicas, and which lines a file may have is its caller's word. It
-//! starts no thread and keeps no lock but that of the file, which ends with the process.
+//! It is not the sheet: it knows no deltas and no replicas, and its caller decides which lines a file may have. It
+//! starts no thread. Its only lock is that of the file, which ends with the process.
 //!
-//! The contracts to use: that of [`Journal::sync`], after which all lines noted are kept, or after a failure those
-//! that were, to which the file is cut; that of [`open`], after which the journal's lines are the whole lines of the
-//! file; and the laws, whatever a crash leaves of the file: its lines begin with all that were acknowledged, and are a
-//! beginning of those that were noted. A file that is found is cut by [`open`] alone, which takes it: so whoever reads
-//! a file first and refuses it leaves it as it was.
+//! The contracts to use:
 //!
-//! The devices: memory ([`MemoryFile`], [`MemoryDevice`]), which can be made to fail, and a file of the system
-//! ([`FoundFile`], [`KeptFile`]). Of the latter, clauses say what its calls were told; that the system keeps what it
-//! synced, in order, is trusted. A journal has its device to its end: whoever looks at that afterwards lends it, by a
-//! [`Found`] of their own.
+//! - [`Journal::sync`]: all noted lines are durable after it. After a failure those acknowledged before are, and the
+//!   file is cut to them if it can be.
+//! - [`open`]: the journal's lines are the whole lines of the file.
+//! - The laws: the lines of the file after a crash begin with all acknowledged ones, and are a beginning of the noted
+//!   ones.
 //!
-//! From a file of `ab`, `cd` and a piece `e`, [`first_line`] reads `ab`, then `cd`, then none, and [`open`] cuts `e`
-//! off; after a note of `fg` and a sync the file is `ab`, `cd` and `fg`, each with its line feed.
+//! Only [`open`] cuts a found file, and takes it. So a caller that reads a file first and refuses it leaves it as it
+//! was.
 //!
-//! Cost: a file that is found has its bytes in memory; to sync a journal is one append to the file and one sync of it.
+//! The devices are memory ([`MemoryFile`], [`MemoryDevice`]), which can be made to fail, and a file of the system
+//! ([`FoundFile`], [`KeptFile`]). Clauses of the latter say what the system's calls returned. That the system keeps
+//! what it synced, in order, is trusted. A journal has its device to its end. A caller that needs the device afterwards
+//! passes a [`Found`] of its own that borrows it.
+//!
+//! A file has the lines `ab` and `cd` and a piece `e`: [`first_line`] reads `ab`, then `cd`, then none, and [`open`]
+//! cuts `e` off. After a note of `fg` and a sync the file has `ab`, `cd` and `fg`, each with its line feed.
+//!
+//! Cost: a found file has its bytes in memory; each sync of a journal is one append to the file and one sync of it.
 #![tactic(auto)]
 
 mod device;

@@ -1,4 +1,4 @@
-//! The start: a file's lines, one after another, and the file without its torn end as a journal.
+//! The start: reads the lines of a file one after another, and opens it as a journal without its torn end.
 ghost use Rattle.std.specs.Prelude.{◌≡◌, ◌≤◌, ◌<◌, ◌∷◌, [], IfOk, IfSome, None, false, length, take};
 ghost use Rattle.ps_keep.specs.Journals.{IsJournal};
 ghost use Rattle.ps_keep.specs.Lines.{text, whole_lines};
@@ -9,7 +9,7 @@ use memchr::{memchr, memrchr};
 use ps_device::Failed;
 use std::alloc::Global;
 
-/// The first whole line of these bytes, without its line feed, and all after it; none where no line feed is left.
+/// Returns the first whole line of these bytes, without its line feed, and all after it; none if no line feed is left.
 ///
 /// Cost: linear in the line.
 pub fn first_line(bytes: &[u8]) -> Option<(&[u8], &[u8])>
@@ -23,7 +23,7 @@ pub fn first_line(bytes: &[u8]) -> Option<(&[u8], &[u8])>
     }
 }
 
-/// How many of these bytes are whole lines.
+/// Returns how many of these bytes are whole lines.
 fn count_whole(bytes: &[u8]) -> usize
     ensures within { result ≤ length bytes.now }
     ensures lines { take result bytes.now ≡ text (whole_lines bytes.now) }
@@ -34,10 +34,10 @@ fn count_whole(bytes: &[u8]) -> usize
     }
 }
 
-/// Opens a file as a journal of its whole lines: a piece after the last line feed, which a crash in mid-write has left,
-/// is cut off. A crash meanwhile leaves a file with the same lines.
+/// Opens a file as a journal of its whole lines.
 ///
-/// Refused where the device fails.
+/// A piece after the last line feed, left by a crash during a write, is cut off. If the machine crashes meanwhile, the
+/// file has the same lines. Fails if the device fails.
 ///
 /// Cost: linear in the piece that is cut off, and one sync.
 pub fn open<F: Found + Drop>(alloc: Global, found: F) -> Result<Journal<F::Device>, Failed>

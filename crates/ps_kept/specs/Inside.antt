@@ -1,4 +1,4 @@
--- What the private functions say of lines on their way; no contract of a public one cites this.
+-- What the contracts of private functions say of lines that are being read. No public contract cites this.
 use Rattle.std.specs.Prelude.{◌≡◌, ◌+◌, ◌-◌, ◌≤◌, ℕ, List, [], ◌∷◌, ◌++◌, drop, length, ⊤}
 use Rattle.ps_delta.specs.Deltas.{Entries}
 use Rattle.ps_sheet.specs.Sheet.{IsFresh}
@@ -8,7 +8,7 @@ use Rattle.ps_kept.specs.Starts.{PushesNew}
 use Rattle.ps_kept.specs.declared.fault.KeepFault.{KeepFault}
 use Rattle.ps_kept.specs.declared.fault.KeepFault.TheVariants as faults
 
--- the lines before `left`, of those after the first line, push this history; the last of them has this number
+-- the lines after the first one, up to `left`, push this history; the last of them has this number
 pub record ReadSoFar (bytes left : List ℕ) (number : ℕ) (history : List Entries) : Type 0 where
   pub done : List (List ℕ)
   pub is : whole_lines bytes ≡ done ++ whole_lines left
@@ -35,7 +35,7 @@ IsPushFault lines faults.Device = ⊥
 IsPushFault lines (faults.Line number) = IsFaultyPush lines number
 IsPushFault lines (faults.Replica other) = ⊥
 
--- so many changes stand in these lines, after the first one
+-- these lines have so many changes, after the first line
 abbrev pub IsDue : ℕ → List (List ℕ) → Type 0
 IsDue changes [] = changes ≡ 0
 IsDue changes (first ∷ others) = changes ≡ length others
@@ -47,6 +47,6 @@ IsKeepFault lines faults.Device = ⊤
 IsKeepFault lines (faults.Line number) = ⊥
 IsKeepFault lines (faults.Replica other) = ⊥
 
--- what a history has after as many as there are lines after the first
+-- what a history has after as many changes as there are lines after the first
 abbrev pub later : List (List ℕ) → List Entries → List Entries
 later lines history = drop (length lines - 1) history

@@ -41,7 +41,7 @@ pub record Notes (old : JournalView) (deltas : List Entries) (new : JournalView)
   pub each : PushAll (map push_line deltas) deltas
   pub journal : IsJournal old → IsJournal new
 
--- the lines of a file once it is kept: where there was none the first is written
+-- the lines of a file once it is kept: the first one is written where there was none
 abbrev pub started : ℕ → List (List ℕ) → List (List ℕ)
 started replica [] = replica_line replica ∷ []
 started replica (first ∷ others) = first ∷ others

@@ -21,8 +21,8 @@ StaysNoted =
     (replica : ℕ) (history more : List Entries) (j : JournalView) → IsNoted replica history j
     → IsPrefix history more → IsNoted replica more j
 
--- LAW: whatever a crash leaves of a file in which a history is kept and a longer one is noted, the next start reads all
--- that was kept, and nothing but a beginning of what was noted
+-- LAW: from whatever a crash leaves of a file in which a history is kept and a longer one is noted, the next start
+-- reads all that was kept, and nothing but a beginning of what was noted
 abbrev pub CrashesKeepSheets : Type 0
 CrashesKeepSheets =
     (replica : ℕ) (kept history : List Entries) (j : JournalView) → IsKept replica kept j
@@ -33,7 +33,7 @@ abbrev pub OneHistory : Type 0
 OneHistory =
     (replica : ℕ) (bytes : List ℕ) (h k : List Entries) → Reads replica bytes h → Reads replica bytes k → h ≡ k
 
--- LAW: a file in which a history is read is refused for nothing but want of memory
+-- LAW: the lines of a file in which a history is read are refused only when out of memory
 abbrev pub ReadFilesOpen : Type 0
 ReadFilesOpen =
     (replica : ℕ) (bytes : List ℕ) (history : List Entries) (fault : KeepFault) → 1 ≤ replica → replica ≤ REPLICAS
@@ -51,8 +51,8 @@ StartsMayCrash =
     (replica : ℕ) (bytes left : List ℕ) (history : List Entries) → Reads replica bytes history
     → IsLeft bytes (length (text (whole_lines bytes))) left → Reads replica left history
 
--- LAW: where a crash has torn the end of a file, and the next start refuses a line of what it left, that line stands
--- after all that were kept
+-- LAW: where a crash has torn the end of a file, and the next start refuses a line of the rest, that line stands after
+-- all that were kept
 abbrev pub FaultsComeAfter : Type 0
 FaultsComeAfter =
     (replica : ℕ) (kept : List Entries) (j : JournalView) (left : List ℕ) (number : ℕ) → IsKept replica kept j

@@ -13,7 +13,7 @@ use Rattle.ps_kept.specs.Kept.{TellHistory}
 use Rattle.ps_kept.specs.declared.fault.KeepFault.{KeepFault}
 use Rattle.ps_kept.specs.declared.fault.KeepFault.TheVariants as faults
 
--- nothing was kept: there is no whole line, and what there is is a beginning of the first one
+-- nothing was kept: there is no whole line, and the bytes are a beginning of the first one
 pub record IsUnbegun (replica : ℕ) (bytes : List ℕ) : Type 0 where
   pub no_line : whole_lines bytes ≡ []
   pub torn : IsPrefix bytes (replica_line replica)
@@ -27,7 +27,7 @@ pub record IsBegun (replica : ℕ) (bytes : List ℕ) (history : List Entries) :
 abbrev pub Reads : ℕ → List ℕ → List Entries → Type 0
 Reads replica bytes history = (IsUnbegun replica bytes × (history ≡ [])) ⊎ IsBegun replica bytes history
 
--- OUTLIVES: whatever a crash leaves of what was written and synced, a start reads of it all that was kept, and nothing
+-- OUTLIVES: from whatever a crash leaves of what was written and synced, a start reads all that was kept, and nothing
 -- but a beginning of the history
 abbrev pub Outlives : ℕ → List Entries → List Entries → List ℕ → ℕ → Type 0
 Outlives replica kept history written synced =
@@ -38,7 +38,7 @@ Outlives replica kept history written synced =
 abbrev pub PushesNew : List Entries → List ℕ → Entries → Type 0
 PushesNew history line delta = Pushes line delta × ¬ IsBelow (state_of delta) (joined_history history)
 
--- the first line tells no replica, or there is none and what there is is no beginning of it
+-- the first line tells no replica, or there is no line and the bytes aren't a beginning of the first one
 abbrev pub HasNoFirst : ℕ → List ℕ → List (List ℕ) → Type 0
 HasNoFirst replica bytes [] = ¬ IsPrefix bytes (replica_line replica)
 HasNoFirst replica bytes (first ∷ others) = (n : ℕ) → 1 ≤ n → n ≤ REPLICAS → first ≢ replica_line n
@@ -64,7 +64,7 @@ IsOther replica (first ∷ others) other = (first ≡ replica_line other) × (fi
 abbrev pub ComesBack : {F : Type 0} → (F → List ℕ) → List ℕ → Option F → Type 0
 ComesBack {F} bytes_of bytes back = (f : F) × (back ≡ Some f) × (bytes_of f ≡ bytes)
 
--- out of memory the file comes back, but where it had no line yet
+-- out of memory the file comes back, unless it had no line yet
 abbrev pub ComesBackOrEmpty : {F : Type 0} → (F → List ℕ) → List ℕ → Option F → Type 0
 ComesBackOrEmpty {F} bytes_of bytes back = ComesBack bytes_of bytes back ⊎ (whole_lines bytes ≡ [])
 
@@ -76,7 +76,7 @@ IsFaultOf replica bytes (faults.Line number) =
     ((number ≡ 1) × HasNoFirst replica bytes (whole_lines bytes)) ⊎ IsFaulty replica (whole_lines bytes) number
 IsFaultOf replica bytes (faults.Replica other) = IsOther replica (whole_lines bytes) other
 
--- why a start is refused: for a line or a replica, with the file as it was; out of memory; or since the device failed
+-- why a start is refused: for a line or a replica, with the file as it was; out of memory; or because the device failed
 abbrev pub IsRefusal : {F : Type 0} → (F → List ℕ) → ℕ → List ℕ → KeepFault → Option F → Type 0
 IsRefusal bytes_of replica bytes faults.Memory back = ComesBackOrEmpty bytes_of bytes back
 IsRefusal bytes_of replica bytes faults.Device back = ⊤

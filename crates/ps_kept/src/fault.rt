@@ -7,14 +7,14 @@ use std::alloc::AllocError;
 /// Why a kept sheet isn't opened.
 #[derive(Clone, Copy, Debug, PartialEq, Eq)]
 pub enum KeepFault {
-    /// There is no memory for it.
+    /// Out of memory.
     Memory,
     /// The device failed.
     Device,
-    /// The line of this number, 1 or more, is none that may stand there: the first isn't that of a replica, or a later
-    /// one doesn't push a delta, or one that is below those before it.
+    /// The line with this number, from 1, is invalid. The first line names no replica, or a later one pushes no delta,
+    /// or one that adds nothing to those before it.
     Line(u64),
-    /// It is the sheet of this replica.
+    /// The file belongs to this other replica.
     Replica(u8),
 }
 

@@ -1,4 +1,4 @@
-//! Who keeps a sheet.
+//! The keeper of a sheet: it makes the changes of a session durable.
 ghost use Rattle.std.specs.Prelude.{◌≡◌, ◌+◌, ◌≤◌, ℕ, List, OnOk, OnErr, false, length, take, ⊤};
 ghost use Rattle.ps_delta.specs.Deltas.{Entries};
 ghost use Rattle.ps_sheet.specs.Sheet.{IsFresh, SheetView};
@@ -15,12 +15,12 @@ use ps_sheet::Sheet;
 use std::alloc::Global;
 use std::marker::Model;
 
-/// Keeps the sheet of one replica in a journal: the replica's number, and after it each change of the history, one line
-/// each. A contract sees it as its journal, a `JournalView`.
+/// A keeper that stores the sheet of one replica in a journal. The first line is the replica's number, and each later
+/// one is a change of the history. A contract sees it as its journal, a `JournalView`.
 #[derive(Drop)]
 pub struct SheetKeeper<D: Device + Drop> {
     journal: Journal<D>,
-    /// how many changes of the history are noted
+    /// how many changes of the history are in the journal
     noted: u64,
 }
 
@@ -37,7 +37,7 @@ impl<D: Device + Drop> Model for SheetKeeper<D> {
 }
 
 impl<D: Device + Drop> SheetKeeper<D> {
-    /// A keeper that goes on with this journal, in which so many changes are noted.
+    /// Creates a keeper that continues this journal, which has the lines of `noted` changes.
     pub(crate) fn new(journal: Journal<D>, noted: u64) -> SheetKeeper<D>
         requires { length journal.lines ≡ noted + 1 }
         ensures { result ≡ journal }
@@ -45,7 +45,7 @@ impl<D: Device + Drop> SheetKeeper<D> {
         SheetKeeper { journal, noted }
     }
 
-    /// Notes what a history has after what is noted.
+    /// Adds the changes that the journal doesn't have yet.
     fn note_later(&mut self, alloc: Global, history: &[Delta]) -> Result<(), Failed>
         requires within { length self.old.lines ≤ length history.now + 1 }
         ensures all { OnOk result (Notes self.old (later self.old.lines history.now) self.new) }
@@ -56,9 +56,7 @@ impl<D: Device + Drop> SheetKeeper<D> {
         note_deltas(alloc, &mut self.journal, later, &mut self.noted)
     }
 
-    /// The journal.
-    ///
-    /// Cost: constant.
+    /// Returns the journal.
     pub fn into_journal(self) -> Journal<D>
         ensures { result ≡ self }
     {
@@ -71,19 +69,19 @@ impl<D: Device + Drop> Keeper<Sheet> for SheetKeeper<D> {
     ghost use Rattle.std.specs.Prelude.{◌≡◌, false, ⊤};
     ghost use Rattle.ps_kept.specs.Kept.{IsKept, IsNoted};
 
-    // whatever a crash leaves of the file, a start reads all of the history
+    // from whatever a crash leaves of the file, the next start reads the whole history
     ghost covers = { λ k sheet. IsKept sheet.replica sheet.history k };
 
     ghost fits = { λ k sheet. IsNoted sheet.replica sheet.history k × (k.has_failed ≡ false) };
 
     ghost can_fail = { ⊤ };
 
-    /// Notes the changes of the history that weren't yet, and has all of them on the disk.
+    /// Adds the changes that the journal doesn't have yet, and syncs the file, so that the whole history is durable.
     ///
-    /// Fails where the device does, out of memory, and where a change has no line. Whatever it comes to, and whenever
-    /// in it a crash comes, a start reads all that was kept, and a beginning of the history.
+    /// Fails when the device fails, when out of memory, and when a change has no line. Whether it fails or not, and at
+    /// whatever moment a crash comes, the next start reads a beginning of the history that has all that was durable.
     ///
-    /// Cost: linear in the lines that are noted; one append and one sync, or none where nothing was noted.
+    /// Cost: linear in the lines that are added; at most one append and one sync, and none where nothing is new.
     fn sync(&mut self, alloc: Global, board: &mut Sheet) -> Result<(), Failed>
         requires fits { IsNoted board.old.replica board.old.history self.old × (self.old.has_failed ≡ false) }
         ensures same { board.new ≡ board.old }

@@ -2,48 +2,38 @@
 ghost use Rattle.ps_kept.specs.Laws.{CrashesKeepSheets, FaultsComeAfter, OneHistory, ReadAgain, ReadFilesOpen};
 ghost use Rattle.ps_kept.specs.Laws.{SquashedFilesRead, StartsMayCrash, StaysNoted};
 
-/// Where a history grows, what is noted is a beginning of it still.
-///
-/// Cost: none.
+/// States that a journal still fits a history that has grown: it has a beginning of the longer one, too.
 pub fn longer_histories_fit()
     ensures { StaysNoted }
 {}
 
-/// Whatever a crash leaves of a file, the next start reads all that was kept, and a beginning of what was noted.
-///
-/// Cost: none.
+/// States that, from whatever a crash leaves of a file, the next start reads a beginning of what was added that has all
+/// that was durable.
 pub fn crashes_keep_sheets()
     ensures { CrashesKeepSheets }
 {}
 
-/// A file has one history or none, and where it has one no start refuses it but out of memory, or since the device
-/// fails.
-///
-/// Cost: none.
+/// States that a file has at most one history. A start refuses a file with a history only when out of memory, or when
+/// the device fails.
 pub fn one_history_is_read()
     ensures one { OneHistory }
     ensures opens { ReadFilesOpen }
 {}
 
-/// What a start leaves is read as what it read, also where it crashes while it cuts the file.
-///
-/// Cost: none.
+/// States that the file after a start reads as it did before, even if the start crashes while it cuts the file.
 pub fn starts_read_the_same()
     ensures again { ReadAgain }
     ensures crash { StartsMayCrash }
 {}
 
-/// What `squash` makes of a file of lines that end in a line feed alone is read as a history with the same join, by the
-/// same replica. So a start takes it as it took the file, and shows the same.
-///
-/// Cost: none.
+/// States that a squashed file reads as a history with the same join, of the same replica, where each line ends in a
+/// line feed alone. So a start takes it as it took the file, and shows the same.
 pub fn squashed_files_read_the_same()
     ensures { SquashedFilesRead }
 {}
 
-/// Where a crash has torn the end of a file, a line that the next start refuses stands after all that were kept.
-///
-/// Cost: none.
+/// States that, in a file whose end a crash has torn, a line that the next start refuses stands after all lines that
+/// were durable.
 pub fn faults_come_after_the_kept()
     ensures { FaultsComeAfter }
 {}

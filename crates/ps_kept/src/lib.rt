@@ -1,26 +1,33 @@
 //! A sheet that is kept in a file, so that it outlives a crash.
 //!
-//! The file is text. Its first line tells the replica, and each other one pushes one change of the history, in order:
-//! so a session that reads it shows the sheet. [`open_kept`] is the start: it reads the sheet of its file, and gives it
-//! with a [`SheetKeeper`], which has on the disk what a session has changed before the replies that tell of it go out.
+//! The file is text. Its first line names the replica. Each other line pushes one change of the history, in order, so a
+//! session that reads the file shows the sheet. The start is [`open_kept`]: it reads the sheet of a file, and returns
+//! it with a [`SheetKeeper`]. The keeper makes a session's changes durable before the replies about them go out.
 //!
-//! It is not the session: it carries no commands out and writes no replies. It is not the journal (`ps_keep`), and it
-//! starts no thread and takes no lock. It decides what a line of the file may be: the replica that was asked for, a
-//! delta in whatever spelling, and none that is below those before it, so that each line is one change of the history.
+//! This crate isn't the session: it carries out no commands and writes no replies. It isn't the journal (`ps_keep`). It
+//! starts no thread and takes no lock. It decides which lines a file may have:
 //!
-//! The contracts to use: that of [`open_kept`], after which the sheet's history is what the lines tell and all of it is
-//! kept, or which names the line or the replica that it can't go on with and gives the file back as it was; that of
-//! [`SheetKeeper`]'s `sync`, after which all of the history is kept, and whenever in it a crash comes, the next start
-//! reads all that was kept and a beginning of the history (`Outlives`); and the laws: a file has one history, no start
-//! refuses a file that a crash has left, what a start leaves is read as what it read, and what `squash` makes of a file
-//! is read as a history with the same join. Whoever shares a sheet between sessions notes lines by [`note_deltas`].
+//! - The first line names the replica that was asked for.
+//! - Each later line pushes a delta, in any spelling, that adds something to those before it. So each is one change of
+//!   the history.
+//!
+//! The contracts to use:
+//!
+//! - [`open_kept`]: the sheet's history is what the lines push, and all of it is durable. Or it names the line or the
+//!   replica that it can't accept, and returns the file as it was.
+//! - [`SheetKeeper`]'s `sync`: the whole history is durable. At whatever moment a crash comes, the next start reads
+//!   a beginning of the history that has all that was durable (`Outlives`).
+//! - The laws: a file has at most one history, and no start refuses a file that a crash has left. The file after a
+//!   start reads as before. A squashed file reads as a history with the same join.
+//!
+//! Code that shares a sheet between sessions adds lines by [`note_deltas`].
 //!
 //! Say replica 1 gives A1 the number 5. Once that is synced the file is `replica 1` and `push
-//! [["A1",[1,1,"5"],[],[]]]`, each with its line feed. A crash in the next write may leave `push [["B1` after them: the
-//! next start reads the one change, and cuts the piece off.
+//! [["A1",[1,1,"5"],[],[]]]`, each with its line feed. A crash in the next write may leave `push [["B1` after them. The
+//! next start reads the one change, and cuts the torn line off.
 //!
 //! Cost: a start is linear in the file, which is in memory once meanwhile. It evaluates each formula once, after the
-//! last line. A sync is linear in the lines: one append to the file, and one sync of it.
+//! last line. A sync is linear in the new lines: one append to the file, and one sync of it.
 #![tactic(auto)]
 
 mod fault;

@@ -1,4 +1,4 @@
-//! The start: a sheet is read of its file, and kept there from then on.
+//! The start: reading a sheet from its file, and keeping it there from then on.
 ghost use Rattle.std.specs.Prelude.{◌≡◌, ◌≢◌, ◌⊎◌, ◌+◌, ◌≤◌, [], IfOk, IfErr, false, length};
 ghost use Rattle.ps_grid.specs.declared.parties.TheConstants.{REPLICAS, WORKERS};
 ghost use Rattle.std.specs.List.{All};
@@ -21,7 +21,7 @@ use std::alloc::Global;
 use std::sync::ledger::Ledger;
 use std::thread::Threads;
 
-/// Writes the first line into a journal that has none, and has it on the disk.
+/// Writes the first line into an empty journal, and syncs it.
 fn begin<D: Device + Drop>(
     alloc: Global,
     mut journal: Journal<D>,
@@ -43,7 +43,7 @@ fn begin<D: Device + Drop>(
     }
 }
 
-/// Keeps a sheet of so many changes in the file that it was read of.
+/// Opens the journal of a file, and returns the keeper of the sheet with `changes` changes that was read from it.
 fn keep_on<F: Found + Drop>(
     alloc: Global,
     found: F,
@@ -71,19 +71,26 @@ fn keep_on<F: Found + Drop>(
     }
 }
 
-/// Reads the sheet of a replica, 1 to 32, of the file that it is kept in, and keeps it there from then on. The formulas
-/// of a wide level are divided among these workers, 1 to `WORKERS`.
+/// Reads the sheet of a replica, 1 to 32, from its file, and returns it with the keeper that writes there from then on.
+/// `workers`, from 1 to `WORKERS`, share the formulas of a wide level.
 ///
-/// The first line has to be `replica ` and the number, and each other one has to push a delta that isn't below those
-/// before it. A piece after the last line feed, which a crash in mid-write has left, is cut off. Into a file without a
-/// whole line, whose bytes are a beginning of the first one or none, that one is written.
+/// The first line has to be `replica ` and the number. Each other line has to push a delta that adds something to those
+/// before it. A piece after the last line feed is what a crash left in mid-write, and is cut off. A file without a
+/// whole line must be empty or hold a beginning of the first line, which is then written.
 ///
-/// Each change has a line, so that no pull is refused as too long.
+/// Each change of the history has a line, so no pull is refused as too long.
 ///
-/// Refused with the first line that is none of these, or with the replica whose sheet it is; then the file is as it
-/// was, to the byte. Refused when out of memory, and where the device fails.
+/// # Errors
 ///
-/// Cost: linear in the file; and each formula that the sheet has in the end is evaluated once.
+/// - `Line`: the number of the first line that isn't as above.
+/// - `Replica`: the file belongs to this other replica.
+/// - `Memory`: out of memory.
+/// - `Device`: the device failed.
+///
+/// `Line` and `Replica` return the file as it was, to the byte. `Memory` does, too, unless the file had no whole line
+/// yet.
+///
+/// Cost: linear in the file. Each formula that the sheet has in the end is evaluated once.
 pub fn open_kept<R: Threads + Sync, F: Found + Drop, L: Ledger>(
     rt: &R,
     alloc: Global,

@@ -22,7 +22,8 @@ use std::alloc::Global;
 use std::sync::ledger::Ledger;
 use std::thread::Threads;
 
-/// The bytes after the first line, which has to tell this replica.
+/// Returns the bytes after the first line, which has to name this replica. A file with only a beginning of that line
+/// has none.
 fn after_first<'a>(
     alloc: Global,
     decoder: &mut Decoder,
@@ -48,8 +49,8 @@ fn after_first<'a>(
     }
 }
 
-/// Takes in what a line pushes. Returns false where it pushes no delta, or one that is below those before it, and then
-/// these are as before.
+/// Adds what a line pushes to the arrivals. Returns false where it pushes no delta, or one that adds nothing to those
+/// before it. Then the arrivals are unchanged.
 fn take_in(
     alloc: Global,
     decoder: &mut Decoder,
@@ -74,7 +75,7 @@ fn take_in(
     arrivals.receive(alloc, delta)
 }
 
-/// Takes in what the lines push, those after the first, where nothing was taken in yet.
+/// Adds what the lines after the first push, to arrivals that are still empty.
 fn read_pushes(
     alloc: Global,
     decoder: &mut Decoder,
@@ -102,7 +103,7 @@ fn read_pushes(
     Ok(())
 }
 
-/// Returns what the lines push, those after the first.
+/// Returns what the lines after the first push.
 fn pushed(
     alloc: Global,
     decoder: &mut Decoder,
@@ -125,7 +126,7 @@ fn pushed(
     }
 }
 
-/// The sheet that the lines of a kept file tell, which this decoder reads.
+/// Reads the sheet from the lines of a kept file, by this decoder.
 fn read_lines<R: Threads + Sync, L: Ledger>(
     rt: &R,
     alloc: Global,
@@ -160,7 +161,7 @@ fn read_lines<R: Threads + Sync, L: Ledger>(
     }
 }
 
-/// The sheet that the lines of a kept file tell.
+/// Reads the sheet from the lines of a kept file.
 pub(crate) fn read_sheet<R: Threads + Sync, L: Ledger>(
     rt: &R,
     alloc: Global,

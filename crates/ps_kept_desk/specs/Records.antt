@@ -1,4 +1,4 @@
--- What is kept of a desk's list.
+-- How much of a desk's list is durable.
 use Rattle.std.specs.Prelude.{◌≤◌, ℕ, List, All, length, take}
 use mathlib.Core.List.{IsPrefix}
 use Rattle.ps_delta.specs.Deltas.{Entries}
@@ -16,7 +16,7 @@ pub record RecordView : Type 0 where
   pub noted : ℕ
 
 -- RECORD: the kept lines tell the replica r, and the history that the kept list stands for, after the opening history
--- h; and the noted ones a beginning of the history that the seen list stands for
+-- h. The noted lines tell a beginning of the history that the seen list stands for
 pub record IsRecord (r : ℕ) (h : List Entries) (v : RecordView) : Type 0 where
   pub told : TellHistory r v.journal.kept (history_of h v.kept)
   pub noted : TellHistory r v.journal.lines (take v.noted (history_of h v.seen))
@@ -24,7 +24,7 @@ pub record IsRecord (r : ℕ) (h : List Entries) (v : RecordView) : Type 0 where
   pub later : IsPrefix v.kept v.seen
   pub journal : IsJournal v.journal
 
--- ENDS KEPT: the kept lines tell the replica, and a beginning of this history, which begins with what each of the lists
+-- ENDS KEPT: the kept lines tell the replica, and a beginning of this history. That begins with what each of the lists
 -- stands for, after the opening history h
 pub record EndsKept (r : ℕ) (h history : List Entries) (lists : List (List Note)) (lines : List (List ℕ)) : Type 0
   where

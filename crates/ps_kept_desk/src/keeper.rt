@@ -1,4 +1,4 @@
-//! The keeper of a desk, and those of its sessions.
+//! The keeper of a desk, and the keepers of its sessions.
 
 ghost use Rattle.std.specs.Prelude.{◌≡◌, ◌+◌, ◌≤◌, [], false, length, vec_len, IfOk, OnOk};
 ghost use mathlib.Core.List.{IsPrefix};
@@ -18,17 +18,15 @@ use std::alloc::Global;
 use std::marker::Model;
 use std::sync::{Mutex, Wait};
 
-/// Keeps the changes of a desk in a journal, for all its sessions.
+/// A keeper that makes the changes of a desk durable in a journal, for all its sessions.
 #[derive(Drop)]
 pub struct DeskKeeper<L: DeskName, D: Device + Drop> {
     record: Mutex<Record<L, D>>,
 }
 
 impl<L: DeskName, D: Device + Drop> DeskKeeper<L, D> {
-    /// The keeper of a desk that was just opened, whose passes are new, with a sheet of so many changes. The journal
-    /// keeps the lines of these.
-    ///
-    /// Cost: constant, no memory.
+    /// Creates the keeper of a desk that was just opened, whose passes are new. The journal has the durable lines of
+    /// the sheet's `changes` changes.
     pub fn new<W: Wait + Drop>(
         journal: Journal<D>,
         desk: &Desk<L, W>,
@@ -49,7 +47,7 @@ impl<L: DeskName, D: Device + Drop> DeskKeeper<L, D> {
         }
     }
 
-    /// Has all kept that is published up to a place, if nobody had it kept before.
+    /// Makes the published list durable up to a place, unless it is already.
     fn keep<W: Wait + Drop, V: Wait>(
         &self,
         wait: &V,
@@ -65,19 +63,35 @@ impl<L: DeskName, D: Device + Drop> DeskKeeper<L, D> {
             return Ok(record.kept());
         }
         record.advance(wait, alloc, desk)?;
-        // (no run meets a place that is beyond the end of the list)
+        // (no run meets a place beyond the end of the list)
         if !record.has(place) {
             return Err(Failed);
         }
         Ok(record.kept())
     }
 
-    /// Ends the desk and its keeper, once the passes of all seats are given back, and what the sessions were told is
-    /// kept. What isn't kept yet is noted, and synced once more.
+    /// Makes all that is published durable, for a caller without a session slot. It fails as a session's sync does.
     ///
-    /// Of the sheet it says what [`Desk::close`] does. The journal's kept lines are those of a beginning of the sheet's
-    /// history, which has all that the sessions were told is kept. They are those of all of it where the last sync
-    /// went well.
+    /// Cost: that of a sync where something isn't durable yet. It may wait while others sync.
+    pub fn keep_shown<W: Wait + Drop, V: Wait>(
+        &self,
+        wait: &V,
+        alloc: Global,
+        desk: &Desk<L, W>,
+    ) -> Result<KeptPlace<L>, Failed> {
+        let mut guard = self.record.lock(wait);
+        let record = &mut *guard;
+        record.advance(wait, alloc, desk)?;
+        Ok(record.kept())
+    }
+
+    /// Ends the desk and its keeper, and returns the sheet and the journal. It takes the passes of all slots, and the
+    /// tokens `told` of what the sessions reported as durable. Lines that aren't durable yet are added, and synced once
+    /// more.
+    ///
+    /// Of the sheet it guarantees what [`Desk::close`] does. The journal's durable lines are those of a beginning of
+    /// the sheet's history, which has all that `told` stands for. They are those of the whole history where the last
+    /// sync succeeded.
     ///
     /// Cost: that of freeing the published copies, and of a sync.
     pub fn close<W: Wait + Drop, V: Wait>(
@@ -103,12 +117,13 @@ impl<L: DeskName, D: Device + Drop> DeskKeeper<L, D> {
     }
 }
 
-/// The keeper of one session at a desk. A contract sees it as the beginning of the desk's list that was told as kept.
+/// The keeper of one session at a desk. A contract sees it as the beginning of the desk's list that it reported as
+/// durable.
 #[derive(Drop)]
 pub struct SeatKeeper<'a, L: DeskName, W: Wait + Drop, D: Device + Drop, V: Wait> {
     keeper: &'a DeskKeeper<L, D>,
     desk: &'a Desk<L, W>,
-    /// by which it waits for the locks
+    /// the means by which it waits for the locks
     wait: &'a V,
     kept: KeptPlace<L>,
 }
@@ -128,9 +143,7 @@ impl<'a, L: DeskName, W: Wait + Drop, D: Device + Drop, V: Wait> Model
 }
 
 impl<'a, L: DeskName, W: Wait + Drop, D: Device + Drop, V: Wait> SeatKeeper<'a, L, W, D, V> {
-    /// A keeper for a session that begins.
-    ///
-    /// Cost: constant, no memory. It may wait while others sync.
+    /// Creates the keeper of a session that begins. It may wait while others sync.
     pub fn new(
         keeper: &'a DeskKeeper<L, D>,
         desk: &'a Desk<L, W>,
@@ -145,9 +158,7 @@ impl<'a, L: DeskName, W: Wait + Drop, D: Device + Drop, V: Wait> SeatKeeper<'a, 
         }
     }
 
-    /// What was told as kept.
-    ///
-    /// Cost: constant.
+    /// Ends the keeper, and returns the token for what it reported as durable.
     pub fn leave(self) -> KeptPlace<L>
         ensures { result ≡ self.entry }
     {
@@ -155,7 +166,7 @@ impl<'a, L: DeskName, W: Wait + Drop, D: Device + Drop, V: Wait> SeatKeeper<'a, 
         kept
     }
 
-    /// Has all kept that is published up to a place.
+    /// Makes the published list durable up to a place.
     fn keep(&mut self, alloc: Global, place: &Place<L>) -> Result<(), Failed>
         ensures covered { OnOk result (IsPrefix place.now self.new) }
         ensures later { IsPrefix self.old self.new }
@@ -164,14 +175,15 @@ impl<'a, L: DeskName, W: Wait + Drop, D: Device + Drop, V: Wait> SeatKeeper<'a, 
             return Ok(());
         }
         let kept = self.keeper.keep(self.wait, alloc, self.desk, place)?;
-        // for the fact that what was told before is kept still
+        // for the fact that the list reported before is a beginning of this one
         let _ = self.kept.begins(&kept);
         self.kept = kept;
         Ok(())
     }
 }
 
-/// What a session has seen, by whichever session it was made, is shown to all and kept before its replies are sent.
+/// Before a session sends its replies, all that it has seen is shown to everyone and durable, whichever session made
+/// it.
 impl<L: DeskName, W: Wait + Drop, D: Device + Drop, V: Wait, U: Wait> Keeper<Seat<'_, L, W, U>>
     for SeatKeeper<'_, L, W, D, V> {
     ghost use Rattle.std.specs.Prelude.{⊤};

@@ -1,23 +1,25 @@
 //! A desk whose changes outlive a crash.
 //!
-//! It is a journal of `ps_keep` beside a desk of `ps_desk`, under a lock of its own. A file that it keeps has a line
-//! that tells whose it is, and then a line `push` for each delta of the desk's history, in order.
+//! It is a journal of `ps_keep` beside a desk of `ps_desk`, under a lock of its own. The file's first line names the
+//! replica. Each later one is a `push` line for a delta of the desk's history, in order.
 //!
-//! Before a session hands on what it was answered, its [`SeatKeeper`] has all kept that the session has seen, by
-//! whichever session it was made. Who comes first writes and syncs for all that wait: what came meanwhile is taken by
-//! the next one, all at once. While the device is at work, edits go on.
+//! Before a session sends its replies, its [`SeatKeeper`] makes all durable that the session has seen, whichever
+//! session made it. The first to come writes and syncs for all that wait. What arrives meanwhile goes into the next
+//! sync, all at once. While the device is at work, edits go on.
 //!
-//! It is not the desk: it makes no change and answers no line. It doesn't read a kept file.
+//! It isn't the desk: it makes no change and answers no line. It doesn't read a kept file.
 //!
-//! The contract to use: that of [`SeatKeeper`]'s `sync`, after which the list that its session has seen is a
-//! beginning of the one that is told as kept; and that of [`DeskKeeper::close`]. The journal's kept lines then are
-//! those of a beginning of the closed sheet's history, which has all that any session was told is kept; and those of
-//! all of it, where the last sync went well. That something is told as kept is a [`KeptPlace`], a token of no bytes
-//! but a length. None is made but where the journal's kept lines are those of the history that the token's list stands
-//! for.
+//! The contracts to use:
 //!
-//! Cost: a sync costs the bytes of the lines that aren't kept yet, one append and one sync of the file, or nothing
-//! where another session had them kept.
+//! - [`SeatKeeper`]'s `sync`: the list that the session has seen is a beginning of the one that is reported as durable.
+//! - [`DeskKeeper::close`]: the journal's durable lines are those of a beginning of the closed sheet's history. It has
+//!   all that any session reported as durable. Where the last sync succeeded, it is the whole history.
+//!
+//! What is durable is reported by a [`KeptPlace`], a token that stores only a length. One is made only where the
+//! journal's durable lines are those of the history that the token's list stands for.
+//!
+//! Cost: a sync costs the bytes of the lines that aren't durable yet, one append and one sync of the file. It costs
+//! nothing where another session has made them durable.
 #![tactic(auto)]
 
 mod keeper;

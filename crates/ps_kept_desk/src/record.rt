@@ -1,4 +1,4 @@
-//! What is kept of a desk's list.
+//! How much of a desk's list is durable.
 
 ghost use Rattle.std.specs.Prelude.{◌≡◌, ◌+◌, ◌<◌, ◌≤◌, ◌^◌, [], true, false, All, drop, length, vec_len};
 ghost use Rattle.std.specs.Prelude.{MatchBool, OnOk, OnErr};
@@ -20,8 +20,8 @@ use std::alloc::Global;
 use std::marker::Model;
 use std::sync::Wait;
 
-/// A token for a beginning of a desk's list that is shown to all and kept. Only a record makes one, of what it keeps. A
-/// contract sees it as that list.
+/// A token for a beginning of a desk's list that is shown to everyone and durable. Only a record makes one, from what
+/// it has made durable. A contract sees it as that list.
 #[derive(Drop)]
 pub struct KeptPlace<L: DeskName> {
     shown: ShownPlace<L>,
@@ -41,9 +41,7 @@ impl<L: DeskName> Model for KeptPlace<L> {
 }
 
 impl<L: DeskName> KeptPlace<L> {
-    /// The same once more.
-    ///
-    /// Cost: constant, no memory.
+    /// Returns a second token for the same beginning.
     pub fn again(&self) -> KeptPlace<L>
         ensures { result ≡ self.now }
     {
@@ -52,16 +50,14 @@ impl<L: DeskName> KeptPlace<L> {
         }
     }
 
-    /// The token that says that it is shown.
+    /// Returns the token for the same beginning as shown to everyone.
     pub fn shown(&self) -> &ShownPlace<L>
         ensures { result.now ≡ self.now }
     {
         &self.shown
     }
 
-    /// Whether what comes up to this place is kept.
-    ///
-    /// Cost: constant.
+    /// Returns whether the list is durable up to this place.
     pub fn has(&self, place: &Place<L>) -> bool
         ensures { MatchBool result
             (IsPrefix place.now self.now × (length place.now ≤ length self.now))
@@ -70,9 +66,7 @@ impl<L: DeskName> KeptPlace<L> {
         self.shown.has(place)
     }
 
-    /// Whether what this one has is kept by the other one too.
-    ///
-    /// Cost: constant.
+    /// Returns whether the other token's list is as long, or longer. Then it begins with this one's.
     pub fn begins(&self, other: &KeptPlace<L>) -> bool
         ensures { MatchBool result
             (IsPrefix self.now other.now × (length self.now ≤ length other.now))
@@ -82,28 +76,28 @@ impl<L: DeskName> KeptPlace<L> {
     }
 }
 
-/// What is left of a desk that was kept.
+/// What remains of a kept desk after its close.
 #[derive(Drop)]
 pub struct Ended<D: Device + Drop> {
-    /// The sheet.
+    /// The desk's sheet.
     pub sheet: Sheet,
-    /// The journal.
+    /// The desk's journal.
     pub journal: Journal<D>,
-    /// What the last sync came to.
+    /// Whether the last sync succeeded.
     pub synced: Result<(), Failed>,
 }
 
-/// A journal of the history of a desk. A contract sees it as its `RecordView`.
+/// A journal of a desk's history, and how much of it is durable. A contract sees it as its `RecordView`.
 #[derive(Drop)]
 pub(crate) struct Record<L: DeskName, D: Device + Drop> {
     journal: Journal<D>,
-    /// what is kept
+    /// the beginning of the list that is durable
     kept: KeptPlace<L>,
-    /// up to where the list was seen
+    /// the beginning of the list that the record has seen
     seen: ShownPlace<L>,
-    /// how many deltas of the history are noted
+    /// how many deltas of the history are in the journal
     noted: u64,
-    /// the device failed, and isn't used any more
+    /// whether the device failed, and isn't used any more
     is_stopped: bool,
 }
 
@@ -134,7 +128,7 @@ impl<L: DeskName, D: Device + Drop> Model for Record<L, D> {
 }
 
 impl<L: DeskName, D: Device + Drop> Record<L, D> {
-    /// A record that keeps the opening history.
+    /// Creates the record of a desk whose opening history is durable.
     pub(crate) fn new(journal: Journal<D>, shown: ShownPlace<L>, noted: u64) -> Record<L, D>
         requires told { TellHistory L.replica journal.lines L.opening }
         requires kept { journal.kept ≡ journal.lines }
@@ -155,7 +149,7 @@ impl<L: DeskName, D: Device + Drop> Record<L, D> {
         }
     }
 
-    /// What is kept.
+    /// Returns the token for what is durable.
     pub(crate) fn kept(&self) -> KeptPlace<L>
         ensures kept { result ≡ self.now.kept }
         ensures record { IsRecord L.replica L.opening self.now }
@@ -163,7 +157,7 @@ impl<L: DeskName, D: Device + Drop> Record<L, D> {
         self.kept.again()
     }
 
-    /// Whether what comes up to this place is kept.
+    /// Returns whether the list is durable up to this place.
     pub(crate) fn has(&self, place: &Place<L>) -> bool
         ensures { MatchBool result
             (IsPrefix place.now self.now.kept × (length place.now ≤ length self.now.kept))
@@ -172,7 +166,7 @@ impl<L: DeskName, D: Device + Drop> Record<L, D> {
         self.kept.has(place)
     }
 
-    /// Keeps all that is published. Where the device fails it keeps what it kept, and never more.
+    /// Makes all that is published durable. Where it fails, no more is durable than before.
     pub(crate) fn advance<W: Wait + Drop, V: Wait>(
         &mut self,
         wait: &V,
@@ -193,7 +187,7 @@ impl<L: DeskName, D: Device + Drop> Record<L, D> {
         }
     }
 
-    /// Notes the deltas that aren't noted yet, and syncs.
+    /// Adds these deltas to the journal, and syncs it.
     fn add(&mut self, alloc: Global, deltas: &[Delta]) -> Result<(), Failed>
         requires rest { deltas.now ≡ drop self.old.noted (history_of L.opening self.old.seen) }
         requires bound { length (history_of L.opening self.old.seen) < 2 ^ 64 }
@@ -206,7 +200,7 @@ impl<L: DeskName, D: Device + Drop> Record<L, D> {
         self.sync()
     }
 
-    /// Notes the deltas that aren't noted yet, or a beginning of them.
+    /// Adds these deltas to the journal, or a beginning of them.
     fn note(&mut self, alloc: Global, deltas: &[Delta]) -> Result<(), Failed>
         requires rest { deltas.now ≡ drop self.old.noted (history_of L.opening self.old.seen) }
         requires bound { length (history_of L.opening self.old.seen) < 2 ^ 64 }
@@ -217,7 +211,7 @@ impl<L: DeskName, D: Device + Drop> Record<L, D> {
         note_deltas(alloc, &mut self.journal, deltas, &mut self.noted)
     }
 
-    /// Has all on the disk that was seen, once it is noted.
+    /// Syncs the journal, which has all that was seen, and reports that as durable.
     fn sync(&mut self) -> Result<(), Failed>
         requires all { self.old.noted ≡ length (history_of L.opening self.old.seen) }
         requires open { self.old.journal.has_failed ≡ false }
@@ -239,7 +233,7 @@ impl<L: DeskName, D: Device + Drop> Record<L, D> {
         }
     }
 
-    /// Ends the desk, keeps the rest of its history, and gives sheet and journal back.
+    /// Ends the desk, makes the rest of its history durable, and returns the sheet and the journal.
     pub(crate) fn close<W: Wait + Drop, V: Wait>(
         mut self,
         wait: &V,
@@ -269,7 +263,7 @@ impl<L: DeskName, D: Device + Drop> Record<L, D> {
         }
     }
 
-    /// Keeps all of the history that is closed.
+    /// Makes the rest of the closed history durable.
     fn finish(&mut self, alloc: Global, history: &[Delta]) -> Result<(), Failed>
         requires history { history.now ≡ history_of L.opening self.old.seen }
         ensures seen { self.new.seen ≡ self.old.seen }
@@ -283,7 +277,8 @@ impl<L: DeskName, D: Device + Drop> Record<L, D> {
         self.add(alloc, &history[noted..])
     }
 
-    /// Finds all kept that was told as kept. No run meets more, for which it would wait for ever.
+    /// Confirms that each list that was reported as durable is durable. No run meets one that isn't: the call would
+    /// wait for ever.
     fn audit<V: Wait>(&self, wait: &V, told: &[KeptPlace<L>])
         ensures { All (λ list. IsPrefix list self.now.kept) told.now }
     {

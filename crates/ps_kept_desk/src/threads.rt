@@ -31,9 +31,7 @@ fn record_is_send<L: DeskName + Send, D: Device + Drop + Send>()
     is_send::<ShownPlace<L>>();
 }
 
-/// A keeper may be shared by threads. Who shares one between threads calls this first.
-///
-/// Cost: none.
+/// States that threads may share a keeper. Call it before sharing one.
 pub fn keeper_is_sync<L: DeskName + Send, D: Device + Drop + Send>()
     ensures { IsSync (keeper.the_row L.row D.row (record { replica = L.replica })
         (record { book = L.book; opening = L.opening }) L.Ledger

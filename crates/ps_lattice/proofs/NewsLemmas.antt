@@ -160,7 +160,8 @@ one_above x y u v h = grind (arith, nat_tests)
 some_is : {X : Type 0} (a b : X) → Some a ≡ Some b → a ≡ b
 some_is a b h = ap (λ o. unwrap_or o a) h
 
-above_fits : (e : ℕ × Count) (t x : Count) (b : Bool) → (nat_le e.1.added t.added && nat_le e.1.subtracted t.subtracted) ≡ b
+above_fits : (e : ℕ × Count) (t x : Count) (b : Bool)
+    → (nat_le e.1.added t.added && nat_le e.1.subtracted t.subtracted) ≡ b
     → is_count e ≡ true
     → (if b then None else Some (record {
       added = newer_total t.added e.1.added;

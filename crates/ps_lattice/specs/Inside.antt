@@ -1,4 +1,4 @@
--- What the code keeps, beside what contracts see.
+-- What the code stores, beside what contracts see.
 pub mod Shared
 pub mod Counts
 pub mod Held

@@ -10,23 +10,23 @@ use Rattle.ps_lattice.specs.MapLaws.{IsJoin, get-joined_maps}
 use Rattle.ps_lattice.specs.News.{IsNewsOf, HasNothingOf}
 
 module _ {X : Type 0} {f : X → X → X} where
-  -- it is below the delta
+  -- what is new is below the delta
   pub news_below : (s d n : X) → IsNewsOf f s d n → f d n ≡ d
   news_below s d n w = w.least d refl
 
-  -- there is one at most
+  -- there is at most one such value
   pub news_once : IsJoin f → (s d n m : X) → IsNewsOf f s d n → IsNewsOf f s d m → n ≡ m
   news_once law s d n m v w = sym (w.least n v.same) ∙ sym (sym (v.least m w.same) ∙ law.commutative m n)
 
-  -- where the delta is below the state, it is what is below everything
+  -- where the delta is below the state, the least value of all is what is new
   pub news_none : (s d e : X) → ((m : X) → f m e ≡ m) → f s d ≡ s → IsNewsOf f s d e
   news_none s d e least below = record { same = least s ∙ sym below; least = λ m h. least m }
 
-  -- and where it is that, the delta is below the state
+  -- and where the least value of all is what is new, the delta is below the state
   pub none_below : (s d e : X) → ((m : X) → f m e ≡ m) → IsNewsOf f s d e → f s d ≡ s
   none_below s d e least w = sym w.same ∙ least s
 
-  -- nothing of it is in the state
+  -- what is new has no part of the state
   pub news_has_nothing : IsJoin f → (s d n : X) → IsNewsOf f s d n → HasNothingOf f s n
   news_has_nothing law s d n w p x below is =
       let gives : f s p ≡ f s d =
@@ -42,7 +42,7 @@ module _ {X : Type 0} (f : X → X → X) where
   both_of-None (Some x) = refl
 
 module _ {K X : Type 0} (R : K → K → Ordering) (f : X → X → X) (o : IsTotalOrder R) (same : IsAntisymmetric R) where
-  -- of maps, it is so key by key
+  -- for maps it is enough key by key
   pub maps_news : (s d n : map.FinMap R X)
       → ((q : K) → IsNewsOf (both_of f) (map.get s q) (map.get d q) (map.get n q)) → IsNewsOf (joined_maps f) s d n
   maps_news s d n at = record {

@@ -1,10 +1,10 @@
--- What is new, by its parts: a replica's P and its N, an added pair and a removed one, each where the state hasn't it.
+-- The new parts: a replica's P and its N, an added pair and a removed one, each where the state doesn't have it.
 use Rattle.std.specs.Prelude.{◌≡◌, ℕ, Bool, not, ◌&&◌, ◌||◌, nat_lt, if◌then◌else◌}
 use Rattle.ps_lattice.specs.Tally.{Counts, added, subtracted, joined_tallies}
 use Rattle.ps_lattice.specs.Choice.{Pairs, is_added, is_removed, joined_choices}
 use Rattle.ps_lattice.specs.News.{IsNewsOf}
 
--- P and N of the delta, each where it is above that of the state, and else 0
+-- P and N of the delta, each where it is above P or N of the state, and else 0
 pub record IsNewByEntry (s d n : Counts) (replica : ℕ) : Type 0 where
   pub added : added n replica ≡ (if nat_lt (added s replica) (added d replica) then added d replica else 0)
   pub subtracted :

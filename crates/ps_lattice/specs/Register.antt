@@ -11,7 +11,7 @@ use Rattle.ps_lattice.specs.Limits.{is_replica}
 use Rattle.ps_lattice.specs.Maps.{both_of}
 use Rattle.ps_lattice.specs.Orders.{larger}
 
--- the assignment whose content is looked at through a reference
+-- the assignment, read through a reference to its content
 abbrev pub looked_at : {V : Type 0} → Assignment (Bor V) → Assignment V
 looked_at a = record { time = a.time; replica = a.replica; content = a.content.now }
 

@@ -1,4 +1,4 @@
-//! A set of options from which only what was observed is removed: an observed-remove set.
+//! An observed-remove set of options: a removal takes away only the pairs that it observed.
 
 ghost use Rattle.std.specs.Prelude.{◌≡◌, ℕ, ◌+◌, ◌<◌, ◌≤◌, ◌↔◌, not, ◌&&◌, ◌||◌, ◌==◌, [], ◌∷◌, Contains, IsTrue};
 ghost use Rattle.std.specs.Prelude.{IfOk, IfErr, IsErrOf, IsBitSet, true, filter, map as each};
@@ -75,7 +75,7 @@ impl Linear for Pair {
     ghost no_ties = { pairs_apart };
 }
 
-/// A mark joined with another one is set where either is.
+/// A joined mark is set where either mark is.
 impl Join for bool {
     ghost use Rattle.std.specs.Prelude.{◌||◌};
     ghost use Rattle.ps_lattice.specs.ChoiceLaws.{removals_is_join};
@@ -154,31 +154,25 @@ impl Model for Choice {
 }
 
 impl Choice {
-    /// A choice of which nothing was ever chosen.
-    ///
-    /// Cost: constant, and no memory.
+    /// Creates a choice in which nothing was ever chosen. It takes no memory.
     pub fn empty(alloc: Global) -> Self
         ensures { result ≡ map.empty }
     {
-        // an empty list takes none
+        // an empty list takes no memory
         let _ = alloc;
         Choice {
             pairs: SharedList::Empty,
         }
     }
 
-    /// Whether nothing was ever chosen; an option that was removed leaves its pairs.
-    ///
-    /// Cost: constant.
+    /// Returns whether nothing was ever chosen. An option that was removed leaves its pairs, so they still count.
     pub fn is_empty(&self) -> bool
         ensures { IsTrue result ↔ (self.now ≡ map.empty) }
     {
         self.parts().is_empty()
     }
 
-    /// The added pairs, ascending, each with whether it is removed.
-    ///
-    /// Cost: constant.
+    /// Returns the added pairs, ascending, each with whether it is removed.
     #[tactic(auto, using(crate::proofs::Views::items_are))]
     pub fn parts(&self) -> &[(Pair, bool)]
         ensures value { result.now ≡ map.entries self.now }
@@ -187,7 +181,7 @@ impl Choice {
         self.pairs.items()
     }
 
-    /// The choice with these pairs: ascending and distinct, and in range.
+    /// Returns the choice with these pairs; `None` unless they are ascending, distinct and in range.
     ///
     /// Refused only when out of memory.
     ///
@@ -203,7 +197,7 @@ impl Choice {
         Ok(Some(Choice { pairs }))
     }
 
-    /// The options that are in: bit k for option k.
+    /// Returns the options that are in, as bits: bit k for option k.
     ///
     /// Cost: linear in the pairs.
     pub fn options(&self) -> u64
@@ -212,10 +206,15 @@ impl Choice {
         options_of(self.parts())
     }
 
-    /// The delta of choosing the option at the replica: one pair, whose sequence is one above the last of the
-    /// replica here.
+    /// Returns the delta of choosing the option at the replica: one new pair.
     ///
-    /// Refused where the option isn't below `OPTIONS`, and where the replica has used the last sequence.
+    /// Its sequence is one above the last sequence of the replica in this set.
+    ///
+    /// # Errors
+    ///
+    /// - `OptionRange`: the option isn't below `OPTIONS`.
+    /// - `ChoiceFull`: the replica has used the last sequence.
+    /// - `Memory`: out of memory.
     ///
     /// Cost: linear in the pairs.
     pub fn choose(&self, alloc: Global, replica: u8, option: u64) -> Result<Choice, Refusal>
@@ -245,9 +244,13 @@ impl Choice {
         Ok(Choice { pairs })
     }
 
-    /// The delta of removing the option: each pair of it that is here and isn't removed, as removed.
+    /// Returns the delta of removing the option: its pairs in this set that aren't removed, now as removed.
     ///
-    /// Refused where the option isn't below `OPTIONS`, and where it isn't in.
+    /// # Errors
+    ///
+    /// - `OptionRange`: the option isn't below `OPTIONS`.
+    /// - `NotChosen`: the option isn't in.
+    /// - `Memory`: out of memory.
     ///
     /// Cost: linear in the pairs.
     pub fn unchoose(&self, alloc: Global, option: u64) -> Result<Choice, Refusal>
@@ -379,11 +382,11 @@ impl Twin for Choice {
 }
 
 impl Choice {
-    /// The join of this set and another one.
+    /// Returns the join of this set and another one.
     ///
     /// Refused only when out of memory.
     ///
-    /// Cost: as of `join`.
+    /// Cost: as for `join`.
     #[tactic(auto, using(crate::proofs::Joining::seen_joined, crate::proofs::ChoiceLemmas::joined_in_range))]
     #[inline(always)]
     pub fn joined(&self, alloc: Global, other: &Choice) -> Result<Choice, Refusal>
@@ -395,11 +398,11 @@ impl Choice {
         })
     }
 
-    /// What of the delta is new to this set: the pairs that aren't here, and those that are removed there alone.
+    /// Returns what in the delta is new to this set: the pairs that aren't here, and those removed in the delta alone.
     ///
     /// Refused only when out of memory.
     ///
-    /// Cost: for each pair of the delta a search here.
+    /// Cost: one search in this set for each pair of the delta.
     pub fn news(&self, alloc: Global, delta: &Choice) -> Result<Choice, Refusal>
         ensures ok { IfOk result (λ c. IsNewsOf joined_choices self.now delta.now c) }
         ensures memory { IfErr result (λ e. e ≡ Refusal.Memory) }

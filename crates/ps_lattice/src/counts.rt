@@ -1,4 +1,4 @@
-//! The counts of a counter. Where one replica has changed it, and neither of its counts is great, they take no memory.
+//! The counts of a counter. They take no memory if one replica alone has changed it and both are below 2^32.
 
 ghost use Rattle.std.specs.Prelude.{◌≡◌, ◌↔◌, ◌≤◌, ◌*◌, [], ◌∷◌, sum_by, IsTrue, IfOk, IfErr};
 ghost use Rattle.std.specs.FinMap as map;
@@ -17,7 +17,7 @@ use std::alloc::Global;
 use std::slice;
 use std::sync::Arc;
 
-/// Replicas with their counts, in two words, that aren't changed any more.
+/// Replicas with their counts, in two words. The list isn't changed any more.
 #[derive(Debug, Drop)]
 pub(crate) enum CountList {
     Empty,
@@ -27,11 +27,11 @@ pub(crate) enum CountList {
         added: u32,
         subtracted: u32,
     },
-    // any others, with one or more owners
+    // any others, with one owner or more
     Shared(Arc<Vec<(u8, Count)>>),
 }
 
-/// The entries of such a list: one that is made of the list's small counts, or those of a list in memory.
+/// The entries of a `CountList`: one made of its small counts, or those of a list in memory.
 #[derive(Debug, Drop)]
 pub(crate) enum Entries<'a> {
     One((u8, Count)),
@@ -39,7 +39,7 @@ pub(crate) enum Entries<'a> {
 }
 
 impl Entries<'_> {
-    /// The replicas with their counts.
+    /// Returns the replicas with their counts.
     #[inline(always)]
     pub(crate) fn as_slice(&self) -> &[(u8, Count)]
         ensures { result.now ≡ entries_in self.now }
@@ -52,7 +52,7 @@ impl Entries<'_> {
 }
 
 impl CountList {
-    /// The list of these entries, without spare room.
+    /// Creates the list of these entries, without spare room.
     pub(crate) fn new(alloc: Global, entries: Vec<(u8, Count)>) -> Result<CountList, Refusal>
         ensures ok { IfOk result (λ l. counts_in l ≡ entries.items) }
         ensures memory { IfErr result (λ e. e ≡ Refusal.Memory) }
@@ -68,7 +68,7 @@ impl CountList {
         Ok(CountList::Shared(Arc::new(alloc, entries)?))
     }
 
-    /// The list of one replica's counts.
+    /// Creates the list of one replica's counts.
     #[inline(always)]
     pub(crate) fn of_one(alloc: Global, replica: u8, count: Count) -> Result<CountList, Refusal>
         ensures ok { IfOk result (λ l. counts_in l ≡ (replica, count) ∷ []) }
@@ -86,7 +86,7 @@ impl CountList {
         Ok(CountList::Shared(Arc::new(alloc, entries)?))
     }
 
-    /// The list, with one owner more where it is in memory.
+    /// Returns the list again, with one owner more where it is in memory.
     #[inline]
     pub(crate) fn share(&self) -> Result<CountList, Refusal>
         ensures ok { IfOk result (λ l. counts_in l ≡ counts_in self.now) }
@@ -107,7 +107,7 @@ impl CountList {
         }
     }
 
-    /// The sums of what was added and of what was subtracted.
+    /// Returns the sums of what was added and of what was subtracted.
     pub(crate) fn totals(&self) -> (u64, u64)
         requires { IsTrue (is_tally (counts_in self.now)) }
         ensures added { result.0 ≡ sum_by (λ e. e.1.added) (counts_in self.now) }
@@ -126,7 +126,7 @@ impl CountList {
         }
     }
 
-    /// The entries.
+    /// Returns the entries.
     #[inline(always)]
     pub(crate) fn entries(&self) -> Entries<'_>
         ensures { entries_in result ≡ counts_in self.now }
@@ -166,8 +166,9 @@ fn totals(counts: &[(u8, Count)]) -> (u64, u64)
     (added, subtracted)
 }
 
-/// Both lists merged in the order of their replicas; counts of one replica are joined. Small counts of one replica
-/// joined are small; of others, where the one list changes nothing in the other, that other one is shared.
+/// Returns both lists merged in the order of their replicas, with counts of one replica joined.
+///
+/// Small counts of one replica stay small. Other lists are shared where the one changes nothing in the other.
 #[inline(always)]
 pub(crate) fn joined(
     alloc: Global,
@@ -187,7 +188,7 @@ pub(crate) fn joined(
     }
 }
 
-/// Both lists joined, as by `joined`, at once where both have small counts of one replica.
+/// Both lists joined, as by `joined`, without a merge where both have small counts of one replica.
 #[inline(always)]
 fn joined_filled(alloc: Global, mine: &CountList, theirs: &CountList) -> Result<CountList, Refusal>
     requires mine { IsTrue (map.is_sorted nat_cmp (counts_in mine.now)) }
@@ -237,7 +238,7 @@ fn merged(alloc: Global, mine: &CountList, theirs: &CountList) -> Result<CountLi
     CountList::new(alloc, all)
 }
 
-/// What of the second list is new to the first one; nothing is of an empty one.
+/// Returns what in the second list is new to the first one. An empty list has nothing new.
 #[inline(always)]
 pub(crate) fn news(
     alloc: Global,
@@ -255,7 +256,7 @@ pub(crate) fn news(
     }
 }
 
-/// What of the second list is new to the first one, entry by entry.
+/// What in the second list is new to the first one, entry by entry.
 #[inline(never)]
 fn news_of_filled(alloc: Global, mine: &CountList, theirs: &CountList) -> Result<CountList, Refusal>
     requires mine { IsTrue (map.is_sorted nat_cmp (counts_in mine.now)) }
@@ -268,8 +269,9 @@ fn news_of_filled(alloc: Global, mine: &CountList, theirs: &CountList) -> Result
     CountList::new(alloc, news)
 }
 
-/// Whether joining the first list into the second one changes nothing. That is told at once where the first is empty,
-/// and where both have small counts of one replica.
+/// Returns whether joining the first list into the second one changes nothing.
+///
+/// The answer needs no walk where the first list is empty, and where both have small counts of one replica.
 #[inline(always)]
 pub(crate) fn is_below(mine: &CountList, theirs: &CountList) -> bool
     requires mine { IsTrue (map.is_sorted nat_cmp (counts_in mine.now)) }

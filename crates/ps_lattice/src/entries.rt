@@ -1,4 +1,4 @@
-//! Lists of keys and values in the order of their keys: what counters and choices are kept as, and deltas listed in.
+//! Lists of keys and values in the order of their keys: counters and choices are stored so, and deltas listed so.
 
 ghost use Rattle.std.specs.Prelude.{◌≡◌, ◌↔◌, ◌++◌, IsTrue, IfOk, IfErr, OnOk};
 ghost use Rattle.std.specs.FinMap as map;
@@ -11,18 +11,18 @@ use ps_grid::{Refusal, Twin};
 use std::alloc::Global;
 use std::cmp::Ordering;
 
-/// A value of lists that are merged: by key, as those of counters and sets, or place by place.
+/// A value of lists that are merged: by key, as those of counters and sets, or position by position.
 pub trait Merge: Join + Twin + Drop {
-    /// The join of this value and another one, made at once.
+    /// Returns the join of this value and another one, made at once.
     ///
     /// Refused only when out of memory.
     ///
-    /// Cost: as of `join`.
+    /// Cost: as for `join`.
     fn joined_with(&self, alloc: Global, other: &Self) -> Result<Self, Refusal>
         ensures ok { IfOk result (λ v. v ≡ Self.joined self.now other.now) }
         ensures memory { IfErr result (λ e. e ≡ Refusal.Memory) };
 
-    /// Adds the entries at the end of the list, one by one; values that need no memory may go in at once.
+    /// Appends the entries to the list, one by one; values that need no memory may go in at once.
     ///
     /// Refused only when out of memory.
     ///
@@ -42,14 +42,14 @@ pub trait Merge: Join + Twin + Drop {
     }
 }
 
-/// A value of which is told what is new to one that may be there.
+/// A value that can say what in it is new to another one.
 pub(crate) trait Newer: Join + Copy {
     ghost use Rattle.std.specs.Prelude.{Option, Some};
     ghost use Rattle.ps_lattice.specs.News.{IsNewsOf};
 
     ghost newer: { Option Self → Self → Option Self };
 
-    /// What of the value is new, if anything is.
+    /// Returns what is new in the value, if anything is.
     fn new_of(there: Option<Self>, value: Self) -> Option<Self>
         ensures { result ≡ newer there value };
 
@@ -57,7 +57,7 @@ pub(crate) trait Newer: Join + Copy {
         → IsNewsOf (both_of Self.joined) there (Some value) (newer there value) };
 }
 
-/// Whether the keys ascend, each once.
+/// Returns whether the keys ascend, each once.
 ///
 /// Cost: linear in the entries; it stops at the first that is out of order.
 pub fn is_ascending<K: Ord, X>(entries: &[(K, X)]) -> bool
@@ -71,7 +71,7 @@ pub fn is_ascending<K: Ord, X>(entries: &[(K, X)]) -> bool
     true
 }
 
-/// What is kept at the key.
+/// Returns the value at the key.
 pub(crate) fn value_at<K: Ord + Copy, X: Copy>(entries: &[(K, X)], key: K) -> Option<X>
     requires { IsTrue (map.is_sorted K.cmp entries.now) }
     ensures { result ≡ map.find K.cmp key entries.now }
@@ -82,7 +82,7 @@ pub(crate) fn value_at<K: Ord + Copy, X: Copy>(entries: &[(K, X)], key: K) -> Op
     }
 }
 
-/// Both lists merged in the order of their keys; values at one key are joined.
+/// Returns both lists merged in the order of their keys, with values at one key joined.
 pub(crate) fn merge_entries<K: Linear + Copy, X: Merge>(
     alloc: Global,
     mine: &[(K, X)],
@@ -120,7 +120,7 @@ pub(crate) fn merge_entries<K: Linear + Copy, X: Merge>(
     Ok(all)
 }
 
-/// What of the second list is new to the first one: of each entry what is new of its value, where something is.
+/// Returns what in the second list is new to the first one: each entry with the new part of its value, if any.
 pub(crate) fn news_entries<K: Linear + Copy, X: Newer>(
     alloc: Global,
     mine: &[(K, X)],
@@ -147,7 +147,7 @@ fn twin_of<K: Copy, X: Twin>(alloc: Global, entry: &(K, X)) -> Result<(K, X), Re
     Ok((entry.0, entry.1.twin(alloc)?))
 }
 
-/// Whether joining the first list into the second one changes nothing.
+/// Returns whether joining the first list into the second one changes nothing.
 pub(crate) fn is_below<K: Linear + Copy, X: Join + Copy>(mine: &[(K, X)], theirs: &[(K, X)]) -> bool
     requires mine { IsTrue (map.is_sorted K.cmp mine.now) }
     requires theirs { IsTrue (map.is_sorted K.cmp theirs.now) }
@@ -163,7 +163,7 @@ pub(crate) fn is_below<K: Linear + Copy, X: Join + Copy>(mine: &[(K, X)], theirs
     true
 }
 
-/// Whether joining the value into what is there changes nothing.
+/// Whether joining `value` into `there` changes nothing.
 fn covers_at<X: Join + Copy>(there: Option<X>, value: X) -> bool
     ensures { IsTrue result ↔ (both_of X.joined there (Some value) ≡ there) }
 {

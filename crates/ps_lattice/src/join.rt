@@ -23,9 +23,9 @@ pub trait Join: Sized {
         ensures err { OnErr result (self.new ≡ self.old) }
         ensures memory { IfErr result (λ e. e ≡ Refusal.Memory) };
 
-    /// Whether this state is below the other one: joining it there changes nothing.
+    /// Returns whether this state adds nothing new to the other one: joining it there changes nothing.
     ///
-    /// Cost: for each part of this state a search in the other; no memory.
+    /// Cost: one search in the other state for each part of this one; no memory.
     fn below(&self, other: &Self) -> bool
         ensures { IsTrue result ↔ (joined other.now self.now ≡ other.now) };
 

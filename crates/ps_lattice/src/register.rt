@@ -1,4 +1,4 @@
-//! A register in which the last writer wins: a last-writer register.
+//! A last-writer register: the last writer wins.
 
 ghost use Rattle.std.specs.Prelude.{◌≡◌, ◌+◌, ◌≤◌, ◌↔◌, IsTrue, IfOk, IfErr, IsErrOf, IfSome};
 ghost use Rattle.std.specs.Option.{SomeIff, option_copied, option_map};
@@ -12,14 +12,14 @@ use std::alloc::Global;
 use std::cmp::Ordering;
 use std::marker::Model;
 
-/// What was assigned, at which time and by which replica: time and replica are its stamp, a Lamport timestamp.
+/// A content with its stamp, the time and the replica of the assignment: a Lamport timestamp.
 #[derive(Debug, Drop)]
 pub struct Assignment<V> {
     /// 1 to `LAST_TIME`.
     pub time: u64,
     /// 1 to `REPLICAS`.
     pub replica: u8,
-    /// What the register holds.
+    /// The content of the register.
     pub content: V,
 }
 
@@ -29,8 +29,9 @@ pub struct Register<V> {
     held: Held<V>,
 }
 
-/// Nothing, or the parts of an assignment. The replica's number lies beside the mark of the variant, so that a register
-/// takes two words more than its content.
+/// Nothing, or the parts of an assignment.
+///
+/// The replica's number lies beside the mark of the variant, so a register takes two words more than its content.
 #[derive(Debug, Drop)]
 enum Held<V> {
     Nothing,
@@ -51,9 +52,7 @@ impl<V> Model for Register<V> {
 }
 
 impl<V> Register<V> {
-    /// A register to which nothing was assigned.
-    ///
-    /// Cost: constant.
+    /// Creates a register to which nothing was assigned.
     pub fn empty() -> Self
         ensures { result ≡ None }
     {
@@ -62,9 +61,7 @@ impl<V> Register<V> {
         }
     }
 
-    /// Whether nothing was assigned yet.
-    ///
-    /// Cost: constant.
+    /// Returns whether nothing was assigned yet.
     pub fn is_empty(&self) -> bool
         ensures { IsTrue result ↔ (self.now ≡ None) }
     {
@@ -74,9 +71,7 @@ impl<V> Register<V> {
         }
     }
 
-    /// The assignment that the register holds, with a reference to its content.
-    ///
-    /// Cost: constant.
+    /// Returns the assignment that the register holds, with a reference to its content.
     #[inline(always)]
     pub fn parts(&self) -> Option<Assignment<&V>>
         ensures value { option_map looked_at result ≡ self.now }
@@ -96,9 +91,7 @@ impl<V> Register<V> {
         }
     }
 
-    /// The content that the register holds.
-    ///
-    /// Cost: constant.
+    /// Returns the content that the register holds.
     #[inline(always)]
     pub fn content(&self) -> Option<&V>
         ensures { option_copied result ≡ option_map (λ a. a.content) self.now }
@@ -109,9 +102,7 @@ impl<V> Register<V> {
         }
     }
 
-    /// The time of the assignment, 0 where nothing was assigned.
-    ///
-    /// Cost: constant.
+    /// Returns the time of the assignment, and 0 where nothing was assigned.
     #[inline(always)]
     pub fn time(&self) -> u64
         ensures value { result ≡ time_of self.now }
@@ -123,9 +114,7 @@ impl<V> Register<V> {
         }
     }
 
-    /// The register that holds this assignment, where its stamp is in range.
-    ///
-    /// Cost: constant.
+    /// Returns the register that holds this assignment; `None` where its stamp is out of range.
     pub fn from_parts(assignment: Assignment<V>) -> Option<Register<V>>
     where
         V: Drop,
@@ -147,11 +136,9 @@ impl<V> Register<V> {
 }
 
 impl<V: Linear + Drop> Register<V> {
-    /// The delta of an assignment of the content at the replica: a time one above that of this register.
+    /// Returns the delta of assigning the content at the replica, at a time one above the time of this register.
     ///
-    /// Refused where the register has the last time already.
-    ///
-    /// Cost: constant.
+    /// Refused as `ClockFull` where the register has the last time already.
     pub fn assign(&self, replica: u8, content: V) -> Result<Register<V>, Refusal>
         requires { (1 ≤ replica) × (replica ≤ REPLICAS) }
         ensures ok { IfOk result (λ d. d
@@ -176,11 +163,11 @@ impl<V: Linear + Drop> Register<V> {
 }
 
 impl<V: Linear + Twin + Drop> Register<V> {
-    /// The join of this register and another one.
+    /// Returns the join of this register and another one.
     ///
     /// Refused only when out of memory.
     ///
-    /// Cost: constant; where the stamps are equal, that of comparing the contents.
+    /// Cost: constant; where the stamps are equal, one comparison of the contents.
     #[inline(always)]
     pub fn joined(&self, alloc: Global, other: &Register<V>) -> Result<Register<V>, Refusal>
         ensures ok { IfOk result (λ r. r ≡ joined_registers V.cmp self.now other.now) }
@@ -190,11 +177,11 @@ impl<V: Linear + Twin + Drop> Register<V> {
         newer.twin(alloc)
     }
 
-    /// What of the delta is new to this register: its assignment, where it is greater than that here.
+    /// Returns what in the delta is new to this register: its assignment, where that is greater than the one here.
     ///
     /// Refused only when out of memory.
     ///
-    /// Cost: constant; where the stamps are equal, that of comparing the contents.
+    /// Cost: constant; where the stamps are equal, one comparison of the contents.
     #[inline(always)]
     pub fn news(&self, alloc: Global, delta: &Register<V>) -> Result<Register<V>, Refusal>
         ensures ok { IfOk result (λ r. IsNewsOf (joined_registers V.cmp) self.now delta.now r) }
@@ -256,7 +243,7 @@ impl<V: Linear + Twin + Drop> Join for Register<V> {
     }
 }
 
-/// By time, then by replica, then by content.
+/// The order of two assignments: by time, then by replica, then by content.
 #[inline]
 fn compare<V: Ord>(mine: &Assignment<&V>, theirs: &Assignment<&V>) -> Ordering
     ensures { result ≡ assignment_cmp V.cmp (looked_at mine.now) (looked_at theirs.now) }

@@ -17,8 +17,9 @@ use std::alloc::Global;
 use std::slice;
 use std::sync::Arc;
 
-/// A list that isn't changed any more, in two words. One that is empty takes no memory, and a lone item lies beside
-/// the count of the owners: most lists have one item at most.
+/// A list in two words that any number of owners share. It isn't changed any more.
+///
+/// An empty list takes no memory, and a lone item lies beside the count of the owners. Most lists have no more items.
 #[derive(Debug, Drop)]
 pub(crate) enum SharedList<X> {
     Empty,
@@ -27,7 +28,7 @@ pub(crate) enum SharedList<X> {
 }
 
 impl<X: Drop> SharedList<X> {
-    /// The list, with one owner and no spare room.
+    /// Creates the list, with one owner and no spare room.
     pub(crate) fn new(alloc: Global, items: Vec<X>) -> Result<SharedList<X>, Refusal>
         ensures ok { IfOk result (λ s. items_of s ≡ items.items) }
         ensures memory { IfErr result (λ e. e ≡ Refusal.Memory) }
@@ -45,7 +46,7 @@ impl<X: Drop> SharedList<X> {
         Ok(SharedList::Many(Arc::new(alloc, items)?))
     }
 
-    /// The list of one item.
+    /// Creates the list of one item.
     pub(crate) fn of_one(alloc: Global, item: X) -> Result<SharedList<X>, Refusal>
         ensures ok { IfOk result (λ s. items_of s ≡ item ∷ []) }
         ensures memory { IfErr result (λ e. e ≡ Refusal.Memory) }
@@ -53,7 +54,7 @@ impl<X: Drop> SharedList<X> {
         Ok(SharedList::One(Arc::new(alloc, item)?))
     }
 
-    /// The list, with one owner more.
+    /// Returns the list again, with one owner more.
     #[inline]
     pub(crate) fn share(&self) -> Result<SharedList<X>, Refusal>
         ensures ok { IfOk result (λ s. items_of s ≡ items_of self.now) }
@@ -66,7 +67,7 @@ impl<X: Drop> SharedList<X> {
         }
     }
 
-    /// The items.
+    /// Returns the items.
     pub(crate) fn items(&self) -> &[X]
         requires fits { FitsInMemory X.row }
         ensures { result.now ≡ items_of self.now }
@@ -79,9 +80,10 @@ impl<X: Drop> SharedList<X> {
     }
 }
 
-/// Both lists merged in the order of their keys; values at one key are joined. Where the one changes nothing in the
-/// other, that other one gets an owner more, and nothing is copied.
-// Most lists are empty. That is told here, inlined, and what joins two that aren't isn't.
+/// Returns both lists merged in the order of their keys, with values at one key joined.
+///
+/// Where one list changes nothing in the other, that other one gets an owner more, and nothing is copied.
+// Most lists are empty: that case is inlined, and the join of two filled lists isn't.
 #[inline(always)]
 pub(crate) fn joined<K: Linear + Copy, X: Merge + Copy>(
     alloc: Global,
@@ -102,7 +104,7 @@ pub(crate) fn joined<K: Linear + Copy, X: Merge + Copy>(
     }
 }
 
-/// Both lists joined, as by `joined`, at once where each has one entry and both are of one key.
+/// Both lists joined, as by `joined`, without a merge where each has one entry and both have one key.
 #[inline(never)]
 fn joined_filled<K: Linear + Copy, X: Merge + Copy>(
     alloc: Global,
@@ -124,7 +126,7 @@ fn joined_filled<K: Linear + Copy, X: Merge + Copy>(
     }
 }
 
-/// The list of two entries of one key joined: one of the two with an owner more, where it is that already.
+/// The list of two entries of one key joined. It is one of the two with an owner more, if that is the join already.
 #[inline]
 fn joined_at_key<K: Linear + Copy, X: Merge + Copy>(
     alloc: Global,
@@ -170,7 +172,7 @@ fn merged<K: Linear + Copy, X: Merge + Copy>(
     SharedList::new(alloc, all)
 }
 
-/// What of the second list is new to the first one; nothing is of an empty one.
+/// Returns what in the second list is new to the first one. An empty list has nothing new.
 #[inline(always)]
 pub(crate) fn news<K: Linear + Copy + Drop, X: Newer + Drop>(
     alloc: Global,
@@ -189,7 +191,7 @@ pub(crate) fn news<K: Linear + Copy + Drop, X: Newer + Drop>(
     }
 }
 
-/// What of the second list is new to the first one, entry by entry.
+/// What in the second list is new to the first one, entry by entry.
 #[inline(never)]
 fn news_of_filled<K: Linear + Copy + Drop, X: Newer + Drop>(
     alloc: Global,
@@ -206,7 +208,7 @@ fn news_of_filled<K: Linear + Copy + Drop, X: Newer + Drop>(
     SharedList::new(alloc, news)
 }
 
-/// Whether joining the first list into the second one changes nothing, as it is at once where the first is empty.
+/// Returns whether joining the first list into the second one changes nothing. An empty first list needs no walk.
 #[inline(always)]
 pub(crate) fn is_below<K: Linear + Copy, X: Join + Copy>(
     mine: &SharedList<(K, X)>,

@@ -1,4 +1,4 @@
-//! A counter that goes up and down: a PN-counter.
+//! A PN-counter: a counter that goes up and down.
 
 ghost use Rattle.std.specs.Prelude.{◌≡◌, ◌+◌, ◌<◌, ◌≤◌, ◌↔◌, not, [], ◌∷◌, Contains, IsTrue, IfOk};
 ghost use Rattle.std.specs.Prelude.{IfErr, IsErrOf};
@@ -18,12 +18,12 @@ use ps_grid::{REPLICAS, Refusal, Twin};
 use std::alloc::Global;
 use std::marker::Model;
 
-/// What one replica added to a counter in all, and what it subtracted, each at most `COUNT_LIMIT`.
+/// The totals that one replica added to a counter and subtracted from it, each at most `COUNT_LIMIT`.
 #[derive(Clone, Copy, Debug, PartialEq, Eq)]
 pub struct Count {
-    /// P of the replica.
+    /// P of the replica: the total that it added.
     pub added: u64,
-    /// N of the replica.
+    /// N of the replica: the total that it subtracted.
     pub subtracted: u64,
 }
 
@@ -33,7 +33,7 @@ impl Twin for Count {
     }
 }
 
-/// Each count joined with another one is the greater of the two.
+/// Each joined count is the greater of the two.
 impl Join for Count {
     ghost use Rattle.ps_lattice.specs.Tally.{greater_counts};
     ghost use Rattle.ps_lattice.specs.TallyLaws.{counts_is_join};
@@ -97,7 +97,7 @@ impl Newer for Count {
     }
 }
 
-/// The total where it is above the one there, else 0.
+/// The total where it is above `there`, else 0.
 fn newer_total(there: u64, total: u64) -> u64
     ensures { result ≡ newer_total there total }
 {
@@ -107,7 +107,7 @@ fn newer_total(there: u64, total: u64) -> u64
 /// A counter: for each replica what it added and what it subtracted.
 #[derive(Debug, Drop)]
 pub struct Tally {
-    // by replica, and only replicas that changed the counter
+    // by replica; only replicas that changed the counter
     counts: CountList,
 }
 
@@ -150,9 +150,7 @@ impl<'a> Model for TallyParts<'a> {
 }
 
 impl TallyParts<'_> {
-    /// The replicas, ascending, each with its counts.
-    ///
-    /// Cost: constant.
+    /// Returns the replicas, ascending, each with its counts.
     #[tactic(auto, using(crate::proofs::Views::items_are))]
     #[inline(always)]
     pub fn as_slice(&self) -> &[(u8, Count)]
@@ -164,31 +162,25 @@ impl TallyParts<'_> {
 }
 
 impl Tally {
-    /// A counter that nobody has changed; its value is 0.
-    ///
-    /// Cost: constant, and no memory.
+    /// Creates a counter that nobody has changed; its value is 0. It takes no memory.
     pub fn empty(alloc: Global) -> Self
         ensures { result ≡ map.empty }
     {
-        // an empty list takes none
+        // an empty list takes no memory
         let _ = alloc;
         Tally {
             counts: CountList::Empty,
         }
     }
 
-    /// Whether nobody has changed the counter.
-    ///
-    /// Cost: constant.
+    /// Returns whether nobody has changed the counter.
     pub fn is_empty(&self) -> bool
         ensures { IsTrue result ↔ (self.now ≡ map.empty) }
     {
         self.parts().as_slice().is_empty()
     }
 
-    /// The replicas that changed the counter, each with its counts: those of the map that the counter is.
-    ///
-    /// Cost: constant.
+    /// Returns the replicas that changed the counter, each with its counts.
     #[inline(always)]
     pub fn parts(&self) -> TallyParts<'_>
         ensures value { result ≡ self.now }
@@ -199,7 +191,9 @@ impl Tally {
         }
     }
 
-    /// The counter with these counts: replicas ascending and distinct, counts in range and not both 0.
+    /// Returns the counter with these counts.
+    ///
+    /// Returns `None` unless the replicas are ascending and distinct, and their counts in range and not both 0.
     ///
     /// Refused only when out of memory.
     ///
@@ -215,7 +209,7 @@ impl Tally {
         Ok(Some(Tally { counts }))
     }
 
-    /// The sum of what was added less the sum of what was subtracted.
+    /// Returns the value: the sum of what was added less the sum of what was subtracted.
     ///
     /// Cost: linear in the replicas that changed the counter.
     pub fn value(&self) -> i64
@@ -225,10 +219,13 @@ impl Tally {
         added as i64 - subtracted as i64
     }
 
-    /// The delta of adding the amount at the replica: what it added in all, raised by the amount.
+    /// Returns the delta of adding the amount at the replica: the total that it added, raised by the amount.
     ///
-    /// Refused where the amount isn't 1 to `AMOUNT_LIMIT`, and where the replica would have added more than
-    /// `COUNT_LIMIT` in all.
+    /// # Errors
+    ///
+    /// - `Amount`: the amount isn't 1 to `AMOUNT_LIMIT`.
+    /// - `TallyFull`: the replica would have added more than `COUNT_LIMIT` in all.
+    /// - `Memory`: out of memory.
     ///
     /// Cost: logarithmic in the replicas that changed the counter.
     #[tactic(auto, using(crate::proofs::TallyLemmas::add_raises, crate::proofs::TallyLemmas::add_is_fresh))]
@@ -251,10 +248,13 @@ impl Tally {
         Tally::of_one(alloc, replica, count)
     }
 
-    /// The delta of subtracting the amount at the replica: what it subtracted in all, raised by the amount.
+    /// Returns the delta of subtracting the amount at the replica: the total that it subtracted, raised by the amount.
     ///
-    /// Refused where the amount isn't 1 to `AMOUNT_LIMIT`, and where the replica would have subtracted more than
-    /// `COUNT_LIMIT` in all.
+    /// # Errors
+    ///
+    /// - `Amount`: the amount isn't 1 to `AMOUNT_LIMIT`.
+    /// - `TallyFull`: the replica would have subtracted more than `COUNT_LIMIT` in all.
+    /// - `Memory`: out of memory.
     ///
     /// Cost: logarithmic in the replicas that changed the counter.
     #[tactic(auto, using(crate::proofs::TallyLemmas::sub_raises, crate::proofs::TallyLemmas::sub_is_fresh))]
@@ -291,7 +291,7 @@ impl Tally {
         entries::value_at(self.parts().as_slice(), replica).unwrap_or(none)
     }
 
-    /// The counter of one replica's counts and nothing else.
+    /// The counter with the counts of one replica alone.
     #[inline(always)]
     fn of_one(alloc: Global, replica: u8, count: Count) -> Result<Tally, Refusal>
         requires { IsTrue (is_count (replica, count)) }
@@ -303,7 +303,7 @@ impl Tally {
     }
 }
 
-/// What a replica added or subtracted in all, once it is an amount more; refused as `add` and `sub` are.
+/// The total of a replica after one more amount; refused as in `add` and `sub`.
 fn count_after(before: u64, amount: u64) -> Result<u64, Refusal>
     requires { before ≤ COUNT_LIMIT }
     ensures ok { IfOk result (λ n. (n ≡ before + amount) × (n ≤ COUNT_LIMIT) × (1 ≤ amount)) }
@@ -353,11 +353,11 @@ fn is_amount(amount: u64) -> bool
 }
 
 impl Tally {
-    /// The join of this counter and another one.
+    /// Returns the join of this counter and another one.
     ///
     /// Refused only when out of memory.
     ///
-    /// Cost: as of `join`.
+    /// Cost: as for `join`.
     #[tactic(auto, using(crate::proofs::Joining::seen_joined, crate::proofs::TallyLemmas::joined_in_range))]
     #[inline(always)]
     pub fn joined(&self, alloc: Global, other: &Tally) -> Result<Tally, Refusal>
@@ -369,12 +369,11 @@ impl Tally {
         })
     }
 
-    /// What of the delta is new to this counter: of each replica what it added and what it subtracted, each where it is
-    /// more than here.
+    /// Returns what in the delta is new to this counter: each total of a replica that is more than here.
     ///
     /// Refused only when out of memory.
     ///
-    /// Cost: for each replica of the delta a search here.
+    /// Cost: one search in this counter for each replica of the delta.
     pub fn news(&self, alloc: Global, delta: &Tally) -> Result<Tally, Refusal>
         ensures ok { IfOk result (λ t. IsNewsOf joined_tallies self.now delta.now t) }
         ensures memory { IfErr result (λ e. e ≡ Refusal.Memory) }

@@ -14,14 +14,14 @@ use Rattle.ps_delta.specs.declared.edit.Edit.{Edit}
 use Rattle.ps_lines.specs.Commands.{group_size, AsksOfCell, AsksOfRectangle, AtCell, AtNumber, Assigns, NamesCell}
 use Rattle.ps_lines.specs.Commands.{Read, ReadsChange, ReadsCorners, ReadsDelta, ReadsLine, ReadsOneCell, ReadsPair}
 use Rattle.ps_lines.specs.Commands.{ReadsPull, ReadsRectangle, ReadsReplica, ReadsSet, ReadsTakingIn, ReadsVerb}
-use Rattle.ps_lines.specs.Commands.{replica_number, verb_of, with_part}
+use Rattle.ps_lines.specs.Commands.{ReadsWait, replica_number, verb_of, with_part}
 use Rattle.ps_delta.specs.Deltas.{Entries}
 use Rattle.ps_lines.specs.Words.{after_word, first_word, parts, whole_number, words}
 use Rattle.ps_lines.specs.declared.command.Command.{Command}
 use Rattle.ps_lines.specs.declared.command.Command.TheVariants as commands
 use Rattle.ps_lines.specs.declared.verb.Verb.{Verb}
 use Rattle.ps_lines.specs.declared.verb.Verb.TheVariants.{Add, Choose, Entries as AllEntries, Entry, Get, Merge}
-use Rattle.ps_lines.specs.declared.verb.Verb.TheVariants.{Pull, Push, Replica, Rows, Set, Sub, Unchoose}
+use Rattle.ps_lines.specs.declared.verb.Verb.TheVariants.{Pull, Push, Replica, Rows, Set, Sub, Unchoose, Wait}
 
 -- memory was ample
 abbrev IsAmple : {X : Type 0} → Read X → Type 0
@@ -194,6 +194,11 @@ replica_once (digits ∷ []) a b x y = at (replica_number (whole_number digits))
     at (Some n) p q = p ∙ sym q
 replica_once (digits ∷ second ∷ more) a b x y = x ∙ sym y
 
+wait_once : (others : List (List ℕ)) (a b : Read Command) → ReadsWait others a → ReadsWait others b → a ≡ b
+wait_once [] a b x y = x ∙ sym y
+wait_once (seen ∷ []) a b x y = at_number_once (whole_number seen) a b _ _ x y (λ n p q. p ∙ sym q)
+wait_once (seen ∷ second ∷ more) a b x y = x ∙ sym y
+
 verb_once : (verb : Option Verb) (others : List (List ℕ)) (rest : List ℕ) (a b : Read Command)
     → ReadsVerb verb others rest a → ReadsVerb verb others rest b → IsAmple a → IsAmple b → a ≡ b
 verb_once None others rest a b x y ample_a ample_b = x ∙ sym y
@@ -213,6 +218,7 @@ verb_once (Some Merge) others rest a b x y ample_a ample_b =
     taking_in_once (λ d. commands.Merge d) others rest a b x y ample_a ample_b
 verb_once (Some Pull) others rest a b x y ample_a ample_b = pull_once others a b x y
 verb_once (Some Replica) others rest a b x y ample_a ample_b = replica_once others a b x y
+verb_once (Some Wait) others rest a b x y ample_a ample_b = wait_once others a b x y
 
 -- two readings of one line are the same, where neither lacked memory
 pub reads_once : (line : List ℕ) (a b : Read Command) → ReadsLine line a → ReadsLine line b

@@ -4,7 +4,7 @@ use Rattle.ps_grid.specs.declared.refusal.Refusal.{Refusal}
 use Rattle.ps_grid.specs.declared.refusal.Refusal.TheVariants as refusals
 use Rattle.ps_delta.specs.Deltas.{Entries}
 use Rattle.ps_lines.specs.Commands.{verb_of, ReadsCorners, ReadsLine, ReadsOneCell, ReadsPair, ReadsPull}
-use Rattle.ps_lines.specs.Commands.{Read, ReadsRectangle, ReadsReplica, ReadsTakingIn, ReadsVerb, TakesIn}
+use Rattle.ps_lines.specs.Commands.{Read, ReadsRectangle, ReadsReplica, ReadsTakingIn, ReadsVerb, ReadsWait, TakesIn}
 use Rattle.ps_lines.specs.declared.command.Command.{Command}
 use Rattle.ps_lines.specs.Words.{after_word, first_word, parts, words}
 use Rattle.ps_lines.specs.declared.verb.Verb.{Verb}
@@ -33,6 +33,9 @@ taking_in_reads asked line read reads = rw (parts_are_some 32 line).are reads
 
 pub replica_more : (number rest : List ℕ) → ReadsReplica (number ∷ words rest) (Err refusals.Command)
 replica_more number rest = rw (parts_are_some 32 rest).are refl
+
+pub wait_more : (seen rest : List ℕ) → ReadsWait (seen ∷ words rest) (Err refusals.Command)
+wait_more seen rest = rw (parts_are_some 32 rest).are refl
 
 -- a verb and no space
 pub line_alone : (line word : List ℕ) (verb : Verb) (read : Read Command)

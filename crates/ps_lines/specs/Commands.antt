@@ -1,4 +1,4 @@
--- What a line asks for. It is the line's own: no sheet is looked at.
+-- What a line asks for. It depends on the line alone, not on a sheet.
 use Rattle.std.specs.Prelude.{◌≡◌, ◌<◌, ◌↔◌, ℕ, ◌&&◌, nat_le, List, [], ◌∷◌, codes, bytes_eq, drop}
 use Rattle.std.specs.Prelude.{Option, Some, None, MatchOption, Result, Ok, Err, IfOk, IfErr, MatchResult, ◌⊎◌}
 use Rattle.std.specs.Prelude.{if◌then◌else◌, true, ⊤}
@@ -19,7 +19,7 @@ use Rattle.ps_lines.specs.declared.command.TheConstants.{LARGEST_GROUP}
 use Rattle.ps_lines.specs.declared.command.Command.TheVariants as commands
 use Rattle.ps_lines.specs.declared.verb.Verb.{Verb}
 use Rattle.ps_lines.specs.declared.verb.Verb.TheVariants.{Add, Choose, Entries as AllEntries, Entry, Get, Merge}
-use Rattle.ps_lines.specs.declared.verb.Verb.TheVariants.{Pull, Push, Replica, Rows, Set, Sub, Unchoose}
+use Rattle.ps_lines.specs.declared.verb.Verb.TheVariants.{Pull, Push, Replica, Rows, Set, Sub, Unchoose, Wait}
 
 -- the verb that a word is
 unfoldable pub verb_of : List ℕ → Option Verb
@@ -37,6 +37,7 @@ verb_of word =
     else if bytes_eq word (codes "merge") then Some Merge
     else if bytes_eq word (codes "pull") then Some Pull
     else if bytes_eq word (codes "replica") then Some Replica
+    else if bytes_eq word (codes "wait") then Some Wait
     else None
 
 -- what a line or a part of it is read as, or why it is refused
@@ -162,6 +163,11 @@ ReadsReplica (number ∷ []) read = MatchOption (replica_number (whole_number nu
     (λ n. read ≡ Ok (commands.Replica (Some n)))
 ReadsReplica _ read = read ≡ Err refusals.Command
 
+-- `wait`: one word, the number of changes that are known
+abbrev pub ReadsWait : List (List ℕ) → Read Command → Type 0
+ReadsWait (seen ∷ []) read = AtNumber (whole_number seen) read (λ n. read ≡ Ok (commands.Wait n))
+ReadsWait _ read = read ≡ Err refusals.Command
+
 -- a verb, the words after it, and all that stands there
 abbrev pub ReadsVerb : Option Verb → List (List ℕ) → List ℕ → Read Command → Type 0
 ReadsVerb None others rest read = read ≡ Err refusals.Command
@@ -179,6 +185,7 @@ ReadsVerb (Some Push) others rest read = ReadsPush others rest read
 ReadsVerb (Some Merge) others rest read = ReadsMerge others rest read
 ReadsVerb (Some Pull) others rest read = ReadsPull others read
 ReadsVerb (Some Replica) others rest read = ReadsReplica others read
+ReadsVerb (Some Wait) others rest read = ReadsWait others read
 
 -- WHAT A LINE ASKS FOR
 abbrev pub ReadsLine : List ℕ → Read Command → Type 0

@@ -1,5 +1,5 @@
--- How bytes come together to lines. A line ends with a line feed, which is no part of it; of a line that is longer
--- than the limit nothing is kept.
+-- How bytes come together to lines. A line ends with a line feed, which is no part of it. Nothing is stored of a line
+-- that is longer than the limit.
 use Rattle.std.specs.Prelude.{◌≡◌, ◌≢◌, ◌-◌, ◌<◌, ℕ, Bool, List, [], ◌∷◌, ◌++◌, length, take, Option, Some, None}
 use Rattle.std.specs.Prelude.{if◌then◌else◌, nat_eq, nat_le}
 use Rattle.std.specs.List.{All, ends_with}
@@ -11,7 +11,7 @@ use Rattle.ps_lines.specs.declared.line_buffer.Line.TheVariants as lines
 abbrev pub held : Bool → List ℕ → Option (List ℕ)
 held too_long bytes = if too_long then None else Some bytes
 
--- what is kept of a line with these bytes
+-- what is stored of a line with these bytes
 abbrev pub kept : List ℕ → Option (List ℕ)
 kept bytes = if nat_le (length bytes) LINE_LIMIT then Some bytes else None
 

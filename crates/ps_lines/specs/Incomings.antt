@@ -1,4 +1,4 @@
--- What the reader of a source's lines gives, and what it has still to give.
+-- What the reader of a source's lines returns, and what it has still to return.
 use Rattle.std.specs.Prelude.{◌≡◌, ◌+◌, ◌*◌, ◌-◌, ℕ, List, [], ◌∷◌, ◌++◌, Option, Some, None, true, take, drop}
 use Rattle.std.specs.Prelude.{if◌then◌else◌}
 use Rattle.std.specs.Io.KnownBytes.{Consumes, IsAtEnd, prepend_known}
@@ -10,12 +10,12 @@ use Rattle.ps_lines.specs.declared.incoming.NextLine.{NextLine}
 use Rattle.ps_lines.specs.declared.line_buffer.Line.{Line}
 use Rattle.ps_lines.specs.declared.line_buffer.Line.TheVariants as lines
 
--- of the bytes that were read at once those from `start` to `end`, and then what the source still has
+-- the bytes that were read and aren't taken in, from `start` to `end`, and then what the source still has
 abbrev pub due : {S : Type 0} {G : Ghosts S} → (S → Option (List ℕ)) → Incoming S G → Option (List ℕ)
 due remaining incoming = prepend_known
     (take (incoming.end - incoming.start) (drop incoming.start incoming.piece.items)) (remaining incoming.source)
 
--- at most how many lines it can still end: of each byte that waits one, and of each further read a piece more
+-- the most lines that it can still end: one for each byte that waits, and `PIECE_BYTES + 1` for each further read
 abbrev pub lines_left : {S : Type 0} {G : Ghosts S} → (S → ℕ) → Incoming S G → ℕ
 lines_left left incoming = left incoming.source * (PIECE_BYTES + 1) + (incoming.end - incoming.start)
 

@@ -1,4 +1,4 @@
--- What is handed out of a history to those who have its beginning.
+-- What a pull returns of a history.
 use Rattle.std.specs.Prelude.{◌≡◌, ◌⊎◌, ◌+◌, ◌<◌, ◌≤◌, ℕ, List, [], ◌∷◌, length, take, drop, Ok, Err}
 use Rattle.std.specs.List.{All}
 use Rattle.ps_grid.specs.declared.refusal.Refusal.TheVariants as refusals
@@ -34,20 +34,20 @@ pub record IsGreatest (deltas : List Entries) (most n : ℕ) (line : List ℕ) :
 abbrev pub HasNone : List Entries → ℕ → Type 0
 HasNone deltas most = (k : ℕ) (line : List ℕ) → 1 ≤ k → k ≤ most → ¬ IsGroupLine deltas k line
 
--- of the deltas after the version `from`, the greatest number up to `most` whose line isn't too long
+-- of the deltas after the version `from`, the greatest number up to `most` whose join has a line that isn't too long
 abbrev pub HandsGroup : ℕ → ℕ → List Entries → List ℕ → Type 0
 HandsGroup from most deltas text =
     ((n : ℕ) × (line : List ℕ) × IsGreatest deltas most n line × (text ≡ handed_text (from + n) line))
     ⊎ (HasNone deltas most × (text ≡ refusal_text refusals.TooLong))
 
--- PULL: the reply to one who has the first `from` deltas, and takes at most so many at once
+-- PULL: the reply to a client that has the first `from` deltas, and takes at most `most` at once
 pub record HandsOut (history : List Entries) (from most : ℕ) (text : List ℕ) : Type 0 where
   pub beyond : length history < from → text ≡ refusal_text refusals.Version
   pub at_end : from ≡ length history → text ≡ end_text from
   pub before_end : from < length history → HandsGroup from most (drop from history) text
 
--- what one is told who has the first `from` deltas and takes at most so many at once: of these deltas after them as
--- many as one line holds, or that there are none; out of memory only where there is one
+-- the reply to a client that has the first `from` deltas, by the deltas after them: as many as one line holds, or that
+-- there are none; out of memory only if there is one
 abbrev pub HandsOn : ℕ → ℕ → Read (List Entries) → List ℕ → Type 0
 HandsOn from most (Err refusal) reply = reply ≡ refusal_text refusal
 HandsOn from most (Ok []) reply = reply ≡ end_text from
@@ -59,7 +59,7 @@ pub record HasLine (delta : Entries) : Type 0 where
   pub lawful : IsLawful delta
   pub fits : FitsLine delta
 
--- LAW: of a history whose deltas have lines, whoever has a beginning is handed out more: no pull is refused as too long
+-- LAW: if the deltas of a history have lines, a client that lacks some gets more: no pull is refused as too long
 abbrev pub PullsHandOut : Type 0
 PullsHandOut =
     (history : List Entries) (from most : ℕ) (text : List ℕ) → All HasLine history → from < length history → 1 ≤ most

@@ -19,6 +19,6 @@ Pushes line delta = (text : List ℕ) × (line ≡ push_word ++ text) × IsLine 
 abbrev pub push_line : Entries → List ℕ
 push_line delta = push_word ++ delta_text delta
 
--- the line that hands on a delta line, with its line feed
+-- the line that pushes the delta of a line, with its line feed
 abbrev pub push_text : List ℕ → List ℕ
 push_text delta = push_word ++ (delta ++ 10 ∷ [])

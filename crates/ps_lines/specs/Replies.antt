@@ -4,7 +4,7 @@ use Rattle.ps_grid.specs.Refusals.{number_of, name_of}
 use Rattle.ps_grid.specs.declared.refusal.Refusal.{Refusal}
 use Rattle.ps_lines.specs.declared.reply.Reply.{Reply}
 use Rattle.ps_lines.specs.declared.reply.Reply.TheVariants.{Delta, Done, DoneElsewhere, End, Entries, Entry, Refused}
-use Rattle.ps_lines.specs.declared.reply.Reply.TheVariants.{Replica, Rows, Same, Shown}
+use Rattle.ps_lines.specs.declared.reply.Reply.TheVariants.{Replica, Rows, Same, Shown, Version}
 use Rattle.ps_value.specs.declared.value.Value.{Value}
 use Rattle.ps_value.specs.Shown.{shown_text}
 
@@ -41,6 +41,10 @@ end_text version = codes "end " ++ decimal version ++ 10 ∷ []
 abbrev pub replica_text : ℕ → List ℕ
 replica_text number = codes "replica " ++ decimal number ++ 10 ∷ []
 
+-- how many changes the history has
+abbrev pub version_text : ℕ → List ℕ
+version_text number = codes "version " ++ decimal number ++ 10 ∷ []
+
 abbrev pub refusal_text : Refusal → List ℕ
 refusal_text refusal = codes "err " ++ decimal (number_of refusal) ++ (codes " " ++ name_of refusal) ++ 10 ∷ []
 
@@ -55,4 +59,5 @@ reply_text (Entries count table) = entries_reply count table.items
 reply_text (Delta last line) = handed_text last line.items
 reply_text (End version) = end_text version
 reply_text (Replica number) = replica_text number
+reply_text (Version number) = version_text number
 reply_text (Refused refusal) = refusal_text refusal

@@ -1,4 +1,4 @@
--- How bytes are divided into lines, and what lines are answered, one after another.
+-- How bytes divide into lines, and the replies to lines, one after another.
 use Rattle.std.specs.Prelude.{◌≡◌, ◌⊎◌, ℕ, List, [], ◌∷◌, ◌++◌, length, Option, MatchBool, flat_map, nat_le}
 use Rattle.std.specs.List.{All}
 use Rattle.std.specs.Io.KnownBytes.{Consumes}
@@ -41,8 +41,8 @@ pub record TakesLine (old new : Option (List ℕ)) : Type 0 where
   pub ends : (feed ≡ []) ⊎ (feed ≡ 10 ∷ [])
   pub taken : Consumes old new (part ++ feed)
 
--- what a line that isn't empty and isn't too long is answered: the state before, the line, the reply's bytes, the
--- state after
+-- the reply to a line that isn't empty and isn't too long: the state before, the line, the reply's bytes, the state
+-- after
 abbrev pub Answering : Type 0 → Type 1
 Answering State = State → List ℕ → List ℕ → State → Type 0
 

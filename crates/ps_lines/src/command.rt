@@ -3,7 +3,7 @@ ghost use Rattle.std.specs.Prelude.{◌≡◌, ◌≢◌, ◌∷◌, [], ℕ, Er
 ghost use Rattle.std.specs.Option.{ok_or};
 ghost use Rattle.ps_lines.specs.Words.{after_word, parts, whole_number, words};
 ghost use Rattle.ps_lines.specs.Commands.{AtCell, ReadsCorners, ReadsLine, ReadsOneCell, ReadsPair, ReadsPull};
-ghost use Rattle.ps_lines.specs.Commands.{ReadsRectangle, ReadsReplica, ReadsSet, ReadsVerb, Merges, Pushes};
+ghost use Rattle.ps_lines.specs.Commands.{ReadsRectangle, ReadsReplica, ReadsSet, ReadsVerb, ReadsWait, Merges, Pushes};
 ghost use Rattle.ps_lines.specs.Commands.{TakesMemoryToRead, group_size, replica_number};
 
 use crate::verb::Verb;
@@ -17,54 +17,66 @@ use std::alloc::Global;
 /// What a line asks for.
 #[derive(Drop)]
 pub enum Command {
-    /// To change the sheet.
+    /// Change the sheet.
     Edit(Edit),
-    /// To show a cell.
+    /// Show a cell.
     Get(Cell),
-    /// To show a rectangle, by two opposite corners.
+    /// Show a rectangle, by two opposite corners.
     Rows(Cell, Cell),
-    /// To tell what a cell holds.
+    /// Return the entry of a cell.
     Entry(Cell),
-    /// To tell what the cells of a rectangle hold, by two opposite corners.
+    /// Return the entries of a rectangle, by two opposite corners.
     Entries(Cell, Cell),
-    /// To hand out what was accepted after a version: one delta, or at most so many as one.
+    /// Return the changes after a version: one delta, or at most `most` deltas joined to one.
     Pull {
         /// The version.
         from: u64,
-        /// How many deltas at most, 1 to 16.
+        /// The most deltas to join, 1 to 16; none for one delta.
         most: Option<u8>,
     },
-    /// To take in a delta made elsewhere.
+    /// Take in a delta made elsewhere.
     Push(Delta),
-    /// To take in what is new of a delta made elsewhere.
+    /// Take in what is new of a delta made elsewhere.
     Merge(Delta),
-    /// To tell the own replica, whichever is named beside it.
+    /// Return the own replica, whichever is named beside it.
     Replica(Option<u8>),
+    /// Return the version, once there are more changes than this.
+    Wait(u64),
 }
 
-/// The most deltas that are handed out as one.
+/// The most deltas that a `pull` joins to one.
 pub const LARGEST_GROUP: u64 = 16;
 
 impl Command {
-    /// What a line asks for, or why it is refused:
+    /// Returns what a line asks for, or why it is refused:
     ///
-    /// - `get <cell>`, to show a cell;
-    /// - `set <cell> <entry>`, to give it what the entry stands for, and `set <cell>`, to make it blank;
-    /// - `add <cell> <amount>` and `sub <cell> <amount>`, to change its counter;
-    /// - `choose <cell> <option>` and `unchoose <cell> <option>`, to change its set;
-    /// - `rows <cell>:<cell>`, to show a rectangle;
-    /// - `entry <cell>` and `entries <cell>:<cell>`, to tell what a cell holds, and what a rectangle does;
-    /// - `pull <from>` and `pull <from> <most>`, to hand out deltas;
-    /// - `push <line>`, to take in the delta that all after the space is a line of;
-    /// - `merge <line>`, to take in what is new of it;
-    /// - `replica` and `replica <number>`, to tell the own replica.
+    /// - `get <cell>`: show a cell;
+    /// - `set <cell> <entry>`: give it what the entry stands for; `set <cell>` makes it blank;
+    /// - `add <cell> <amount>` and `sub <cell> <amount>`: change its counter;
+    /// - `choose <cell> <option>` and `unchoose <cell> <option>`: change its set;
+    /// - `rows <cell>:<cell>`: show a rectangle;
+    /// - `entry <cell>` and `entries <cell>:<cell>`: return the entry of a cell, or those of a rectangle;
+    /// - `pull <from>` and `pull <from> <most>`: return deltas;
+    /// - `push <line>`: take in the delta of the line, which is all after the space;
+    /// - `merge <line>`: take in what is new of this delta;
+    /// - `replica` and `replica <number>`: return the own replica;
+    /// - `wait <number>`: return the version once there are more changes than this.
     ///
-    /// Exactly one space stands between two words; an entry may hold more. Of several refusals the first is told:
-    /// another first word, a word too few or too many (`Command`), no cell (`Cell`), no digits or a number of more
-    /// than 64 bits (`Amount` or `OptionRange`), and then those of the entry. Whether the number is in range, and the
-    /// cell has a counter or a set, isn't asked here. A replica that isn't 1 to [`REPLICAS`] is refused (`Replica`).
-    /// Only an entry that is a formula or a text, and the line of a delta, take memory to be read. `decoder` reads the
-    /// line of a delta.
+    /// Exactly one space stands between two words; an entry may hold more. `decoder` reads the line of a delta. Only
+    /// the line of a delta and an entry that is a formula or a text take memory. Whether an amount or an option is in
+    /// range, and whether the cell has a counter or a set, isn't checked here.
+    ///
+    /// # Errors
+    ///
+    /// The first of these that holds:
+    ///
+    /// - `Command`: another first word, or a word too few or too many;
+    /// - `Cell`: a word that names no cell;
+    /// - `Amount` or `OptionRange`: no digits, or a number of more than 64 bits;
+    /// - `Version`: no digits or more than 64 bits for `pull` and `wait`, or a `most` that isn't 1 to 16;
+    /// - `Replica`: a number that isn't 1 to [`REPLICAS`];
+    /// - those of the entry, or `Delta` for a line that is no delta's;
+    /// - `Memory`: out of memory.
     ///
     /// Cost: O(n) in the n bytes of the line.
     #[inline(always)]
@@ -83,7 +95,7 @@ impl Command {
     }
 }
 
-/// What a verb asks for without a space after it.
+/// Reads a line that is only a verb, without a space after it.
 fn read_alone(verb: Verb) -> Result<Command, Refusal>
     ensures read { (rest : List ℕ) → ReadsVerb (Some verb) [] rest result }
     ensures ample { result ≢ Err Refusal.Memory }
@@ -101,13 +113,14 @@ fn read_alone(verb: Verb) -> Result<Command, Refusal>
         | Verb::Entries
         | Verb::Push
         | Verb::Merge
-        | Verb::Pull => Err(Refusal::Command),
+        | Verb::Pull
+        | Verb::Wait => Err(Refusal::Command),
     }
 }
 
-/// What a verb asks for, by all that stands after its space.
+/// Reads all after the verb's space.
 ///
-/// It is inlined, and so is what reads the verbs that are asked for less, so that no command is moved between them.
+/// This function and the one for the rarer verbs are inlined, so that no command is moved between them.
 #[inline(always)]
 fn read_rest(
     alloc: Global,
@@ -132,7 +145,7 @@ fn read_rest(
     }
 }
 
-/// What another verb than these four asks for, by all that stands after its space.
+/// Reads all after the space of any other verb than `get`, `set`, `add` and `sub`.
 #[inline(always)]
 fn read_other(
     alloc: Global,
@@ -166,10 +179,11 @@ fn read_other(
         Verb::Merge => read_merge(alloc, decoder, rest),
         Verb::Pull => read_pull(rest),
         Verb::Replica => read_replica(rest),
+        Verb::Wait => read_wait(rest),
     }
 }
 
-/// The cell that a word names.
+/// Returns the cell that a word names.
 fn read_cell(word: &[u8]) -> Result<Cell, Refusal>
     ensures { AtCell word.now result (λ c. result ≡ Ok c) }
 {
@@ -179,11 +193,11 @@ fn read_cell(word: &[u8]) -> Result<Cell, Refusal>
     }
 }
 
-/// A cell, and no more words.
+/// Reads a cell, and no more words.
 fn read_one_cell(rest: &[u8]) -> Result<Cell, Refusal>
     ensures { ReadsOneCell (words rest.now) result }
 {
-    // no name of a cell has a space: one is looked for only where no cell is named
+    // no cell's name has a space, so a space is looked for only if no cell is named
     match Cell::read(rest) {
         Some(cell) => Ok(cell),
         None => match split_word(rest) {
@@ -193,7 +207,7 @@ fn read_one_cell(rest: &[u8]) -> Result<Cell, Refusal>
     }
 }
 
-/// `set`: a cell, and perhaps an entry after a space.
+/// Reads the rest of `set`: a cell, and perhaps an entry after a space.
 #[inline(always)]
 fn read_set(alloc: Global, rest: &[u8]) -> Result<Command, Refusal>
     ensures { ReadsSet (words rest.now) (after_word rest.now) result }
@@ -204,7 +218,7 @@ fn read_set(alloc: Global, rest: &[u8]) -> Result<Command, Refusal>
     Ok(Command::Edit(Edit::Set(cell, content)))
 }
 
-/// A cell and a number; another word than a number has the refusal given.
+/// Reads a cell and a number; `refusal` is for another word than a number.
 fn read_change(rest: &[u8], refusal: Refusal) -> Result<(Cell, u64), Refusal>
     ensures { ReadsPair refusal (words rest.now) result }
 {
@@ -214,7 +228,7 @@ fn read_change(rest: &[u8], refusal: Refusal) -> Result<(Cell, u64), Refusal>
     }
 }
 
-/// A cell and a number by their words; the number is the last one.
+/// Reads a cell and a number from two words; the number is the last word.
 fn read_pair(word: &[u8], number: &[u8], refusal: Refusal) -> Result<(Cell, u64), Refusal>
     ensures { ReadsPair refusal (word.now ∷ words number.now) result }
 {
@@ -230,7 +244,7 @@ fn read_pair(word: &[u8], number: &[u8], refusal: Refusal) -> Result<(Cell, u64)
     }
 }
 
-/// Two corners, and no more words.
+/// Reads two corners, and no more words.
 fn read_rectangle(rest: &[u8]) -> Result<(Cell, Cell), Refusal>
     ensures { ReadsRectangle (words rest.now) result }
 {
@@ -240,7 +254,7 @@ fn read_rectangle(rest: &[u8]) -> Result<(Cell, Cell), Refusal>
     }
 }
 
-/// Two cells with one colon between.
+/// Reads two cells with one colon between.
 fn read_corners(corners: &[u8]) -> Result<(Cell, Cell), Refusal>
     ensures { ReadsCorners (parts 58 corners.now) result }
 {
@@ -254,21 +268,21 @@ fn read_corners(corners: &[u8]) -> Result<(Cell, Cell), Refusal>
     }
 }
 
-/// `push`: the line of a delta.
+/// Reads the rest of `push`: the line of a delta.
 fn read_push(alloc: Global, decoder: &mut Decoder, line: &[u8]) -> Result<Command, Refusal>
     ensures { Pushes line.now result }
 {
     Ok(Command::Push(decoder.decode(alloc, line)?))
 }
 
-/// `merge`: the line of a delta.
+/// Reads the rest of `merge`: the line of a delta.
 fn read_merge(alloc: Global, decoder: &mut Decoder, line: &[u8]) -> Result<Command, Refusal>
     ensures { Merges line.now result }
 {
     Ok(Command::Merge(decoder.decode(alloc, line)?))
 }
 
-/// `pull`: a version, and perhaps the size of a group after a space.
+/// Reads the rest of `pull`: a version, and perhaps the size of a group after a space.
 fn read_pull(rest: &[u8]) -> Result<Command, Refusal>
     ensures { ReadsPull (words rest.now) result }
 {
@@ -281,7 +295,7 @@ fn read_pull(rest: &[u8]) -> Result<Command, Refusal>
     }
 }
 
-/// `pull` with a version and the size of a group, and no more words.
+/// Reads the rest of `pull` with a version and the size of a group, and no more words.
 fn read_group(from: &[u8], rest: &[u8]) -> Result<Command, Refusal>
     ensures { ReadsPull (from.now ∷ words rest.now) result }
 {
@@ -294,14 +308,14 @@ fn read_group(from: &[u8], rest: &[u8]) -> Result<Command, Refusal>
     }
 }
 
-/// The number of a version.
+/// Reads the number of a version.
 fn read_version(word: &[u8]) -> Result<u64, Refusal>
     ensures { result ≡ ok_or (whole_number word.now) Refusal.Version }
 {
     read_whole(word).ok_or(Refusal::Version)
 }
 
-/// The size of a group, 1 to [`LARGEST_GROUP`].
+/// Reads the size of a group, 1 to [`LARGEST_GROUP`].
 fn read_most(word: &[u8]) -> Result<u8, Refusal>
     ensures { result ≡ ok_or (group_size (whole_number word.now)) Refusal.Version }
 {
@@ -311,7 +325,17 @@ fn read_most(word: &[u8]) -> Result<u8, Refusal>
     }
 }
 
-/// `replica`: the number of one, and no more words.
+/// Reads the rest of `wait`: a version, and no more words.
+fn read_wait(rest: &[u8]) -> Result<Command, Refusal>
+    ensures { ReadsWait (words rest.now) result }
+{
+    match split_word(rest) {
+        (seen, None) => Ok(Command::Wait(read_version(seen)?)),
+        (_, Some(_)) => Err(Refusal::Command),
+    }
+}
+
+/// Reads the rest of `replica`: a replica's number, and no more words.
 fn read_replica(rest: &[u8]) -> Result<Command, Refusal>
     ensures { ReadsReplica (words rest.now) result }
 {
@@ -321,7 +345,7 @@ fn read_replica(rest: &[u8]) -> Result<Command, Refusal>
     }
 }
 
-/// The number of a replica, 1 to [`REPLICAS`].
+/// Reads the number of a replica, 1 to [`REPLICAS`].
 fn read_number(word: &[u8]) -> Result<u8, Refusal>
     ensures { result ≡ ok_or (replica_number (whole_number word.now)) Refusal.Replica }
 {

@@ -1,4 +1,4 @@
-//! How many deltas one line holds, for those who pull them.
+//! How many deltas one line holds, for a `pull`.
 
 ghost use Rattle.std.specs.Prelude.{◌≡◌, ◌⊎◌, ◌↔◌, ◌+◌, ◌-◌, ◌<◌, ◌≤◌, Err, IfOk, IfErr, IfSome, IsTrue, length};
 ghost use Rattle.std.specs.Prelude.{sum_by, take, ◌∷◌, []};
@@ -14,17 +14,20 @@ use ps_grid::{Cell, Refusal, Twin};
 use ps_wire::{encode, may_share_line, outgrows_line};
 use std::alloc::Global;
 
-/// The join of all that may share a line is tried first where they have no more cells, counts and pairs than these:
-/// then it nearly always fits, and little was done in vain where it doesn't.
+/// With at most this many cells, counts and pairs, the join of all deltas that may share a line is tried first. It
+/// nearly always fits then, and costs little if it doesn't.
 const FEW_PARTS: usize = 512;
 
-/// The greatest number of the deltas, at most so many, whose join has a line that isn't too long, and this line.
+/// Returns the greatest number of deltas, at most `most`, whose join has a line that isn't too long, and this line.
 ///
-/// Refused as `TooLong` where there is no such number, and when out of memory.
+/// # Errors
 ///
-/// Cost: for one delta that of its line, and for a few small ones that of one join and its line. Else, and where this
-/// line is too long, that of joining the deltas upward, one more at a time, for as long as one more may fit, of the
-/// line, and of what one line may hold for each greater join.
+/// - `TooLong`: no number of deltas, 1 to `most`, has such a line.
+/// - `Memory`: out of memory.
+///
+/// Cost: for one delta that of its line; for a few small ones that of one join and its line. If these don't fit on one
+/// line, and for many or large deltas: a join for each delta, as long as one more may fit. Then a line for each join
+/// that is too long, and that of the line that fits.
 #[inline(always)]
 pub fn greatest_group(
     alloc: Global,
@@ -60,7 +63,7 @@ pub fn greatest_group(
     Err(Refusal::TooLong)
 }
 
-/// The line of a delta by itself.
+/// Returns the line of a delta by itself.
 fn line_alone(alloc: Global, delta: &Delta) -> Result<Vec<u8>, Refusal>
     ensures line { IfOk result (λ line. IsGreatest (delta.now ∷ []) 1 1 line.items) }
     ensures none { result ≡ Err Refusal.TooLong → HasNone (delta.now ∷ []) 1 }
@@ -71,7 +74,7 @@ fn line_alone(alloc: Global, delta: &Delta) -> Result<Vec<u8>, Refusal>
     joint_line(alloc, delta)
 }
 
-/// Whether the deltas have at most so many cells, counts and pairs, where one counts as often as it comes.
+/// Returns whether the deltas have at most `most` cells, counts and pairs. One that comes twice counts twice.
 fn have_few_parts(deltas: &[Delta], most: usize) -> bool
     ensures { IsTrue result ↔ (sum_by parts_in deltas.now ≤ most) }
 {
@@ -85,7 +88,7 @@ fn have_few_parts(deltas: &[Delta], most: usize) -> bool
     true
 }
 
-/// What is left of so many after the cells with their counts and pairs, if they aren't more.
+/// Returns what is left of `most` after the cells with their counts and pairs; none if they are more.
 fn left_after(cells: &[(Cell, CellState)], most: usize) -> Option<usize>
     ensures { SomeIff result (parts_in cells.now ≤ most) (most - parts_in cells.now) }
 {
@@ -99,7 +102,7 @@ fn left_after(cells: &[(Cell, CellState)], most: usize) -> Option<usize>
     Some(left)
 }
 
-/// What is left of so many after one cell with its counts and pairs, if they aren't more.
+/// Returns what is left of `most` after one cell with its counts and pairs; none if they are more.
 fn left_after_one(cell: &(Cell, CellState), most: usize) -> Option<usize>
     ensures { SomeIff result (part_count cell.now ≤ most) (most - part_count cell.now) }
 {
@@ -109,7 +112,7 @@ fn left_after_one(cell: &(Cell, CellState), most: usize) -> Option<usize>
     left.checked_sub(choice.parts().len())
 }
 
-/// The line of the join of the first deltas, if it isn't too long.
+/// Returns the line of the join of the first `count` deltas, if it isn't too long.
 fn whole_line(alloc: Global, deltas: &[Delta], count: usize) -> Result<Option<Vec<u8>>, Refusal>
     requires some { 0 < count }
     requires within { count ≤ length deltas.now }
@@ -122,7 +125,7 @@ fn whole_line(alloc: Global, deltas: &[Delta], count: usize) -> Result<Option<Ve
     short_line(alloc, &joint)
 }
 
-/// The line of the delta, if it isn't too long.
+/// Returns the line of the delta, if it isn't too long.
 fn short_line(alloc: Global, delta: &Delta) -> Result<Option<Vec<u8>>, Refusal>
     ensures line { IfOk result (λ o. IfSome o (λ line. line.items ≡ delta_text delta.now)) }
     ensures fits { IfOk result (λ o. IfSome o (λ line. length line.items ≤ DELTA_LINE_LIMIT)) }
@@ -135,7 +138,8 @@ fn short_line(alloc: Global, delta: &Delta) -> Result<Option<Vec<u8>>, Refusal>
     }
 }
 
-/// The joins of the first delta, of the first two, and so on: of at most so many, and of none that can have no line.
+/// Returns the joins of the first delta, of the first two, and so on: at most `most`, without those that can have no
+/// line.
 fn joined_upward(alloc: Global, deltas: &[Delta], most: usize) -> Result<Vec<Delta>, Refusal>
     ensures joints { IfOk result (λ js. AreJoints deltas.now most js.items) }
     ensures memory { IfErr result (λ e. e ≡ Refusal.Memory) }
@@ -144,7 +148,7 @@ fn joined_upward(alloc: Global, deltas: &[Delta], most: usize) -> Result<Vec<Del
     let mut joints = Vec::new(alloc);
     'joints: while joints.len() < count {
         let joint = next_joint(alloc, &joints, deltas)?;
-        // (a delta alone mostly has a line, and is asked for it anyway)
+        // a delta alone mostly has a line, and is tried anyway
         if !joints.is_empty() && outgrows_line(&joint) {
             return Ok(joints);
         }
@@ -153,7 +157,7 @@ fn joined_upward(alloc: Global, deltas: &[Delta], most: usize) -> Result<Vec<Del
     Ok(joints)
 }
 
-/// The join of one delta more than the joins so far have.
+/// Returns the join of one delta more than the last join has.
 fn next_joint(alloc: Global, joints: &[Delta], deltas: &[Delta]) -> Result<Delta, Refusal>
     requires within { length joints.now < length deltas.now }
     requires joints { AreFirstJoints deltas.now joints.now }
@@ -170,7 +174,7 @@ fn next_joint(alloc: Global, joints: &[Delta], deltas: &[Delta]) -> Result<Delta
     joined_pair(alloc, &joints[count - 1], delta)
 }
 
-/// The join of two deltas.
+/// Returns the join of two deltas.
 fn joined_pair(alloc: Global, joint: &Delta, delta: &Delta) -> Result<Delta, Refusal>
     ensures joined { IfOk result (λ j. state_of j ≡ joined_history (joint.now ∷ delta.now ∷ [])) }
     ensures delta { IfOk result IsDelta }
@@ -183,7 +187,7 @@ fn joined_pair(alloc: Global, joint: &Delta, delta: &Delta) -> Result<Delta, Ref
     Ok(joined)
 }
 
-/// The line of the delta.
+/// Returns the line of the delta.
 fn joint_line(alloc: Global, joint: &Delta) -> Result<Vec<u8>, Refusal>
     ensures line { IfOk result (λ line. line.items ≡ delta_text joint.now) }
     ensures fits { IfOk result (λ line. length line.items ≤ DELTA_LINE_LIMIT) }

@@ -1,17 +1,19 @@
-//! The deltas of a history, for those who have its beginning.
+//! The deltas that a `pull` asks for.
 ghost use Rattle.std.specs.Prelude.{◌≡◌, ◌⊎◌, ◌↔◌, ◌<◌, Err, IfErr, IfOk, drop, length, take};
 
 use ps_delta::Delta;
 use ps_grid::{Refusal, Twin};
 use std::alloc::Global;
 
-/// The deltas of a history after the number `from`, in order, at most so many.
+/// Returns at most `most` deltas of a history, in order, from the one after the first `from` on.
 ///
-/// Refused as `Version` where the history is shorter than the number, and as `Memory` where there is none for deltas
-/// that there are.
+/// # Errors
 ///
-/// Cost: the deltas that are handed out, each of which is held once more.
-// Inlined with what copies them, as a pull of one delta is a small matter.
+/// - `Version`: the history has fewer than `from` deltas.
+/// - `Memory`: out of memory; only if there is a delta to return.
+///
+/// Cost: that of a twin of each delta that is returned.
+// Inlined with its callee, as a pull of one delta is cheap.
 #[inline(always)]
 pub fn deltas_after(
     alloc: Global,
@@ -34,14 +36,14 @@ pub fn deltas_after(
     copy_deltas(alloc, &later[..most.min(later.len())])
 }
 
-/// The same deltas, held once more each.
+/// Copies the deltas, each as a twin.
 #[inline(always)]
 fn copy_deltas(alloc: Global, deltas: &[Delta]) -> Result<Vec<Delta>, Refusal>
     ensures copied { IfOk result (λ ds. ds.items ≡ deltas.now) }
     ensures memory { IfErr result (λ e. e ≡ Refusal.Memory) }
 {
     let mut copies = Vec::with_capacity(alloc, deltas.len())?;
-    // (a `match`, as `?` would move each copy once more)
+    // a `match`, as `?` would move each copy once more
     'deltas: for delta in deltas {
         match delta.twin(alloc) {
             Ok(copy) => copies.push_reserved(copy),

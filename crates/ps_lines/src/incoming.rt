@@ -1,4 +1,4 @@
-//! The lines that a source holds, one after another.
+//! Reads the lines of a source, one after another.
 ghost use Rattle.std.specs.Prelude.{◌≡◌, ◌≤◌, false, length};
 ghost use Rattle.ps_device.specs.declared.TheConstants.{PIECE_BYTES};
 
@@ -6,18 +6,18 @@ use crate::line_buffer::{Line, LineBuffer};
 use ps_device::{Failed, PIECE_BYTES, Source};
 use std::alloc::{AllocError, Global};
 
-/// Why no line came.
+/// Why no line was read.
 #[derive(Clone, Copy, PartialEq, Eq)]
 pub enum LineFault {
     /// The source failed.
     Failed,
-    /// The source ended, with nothing after the line before.
+    /// The source ended right after the line before.
     Ended,
     /// The source ended in the middle of a line, or the line is too long.
     Broken,
 }
 
-/// What a reader of lines came to: the end of a line, or that of its source.
+/// What a call of [`Incoming::next_line`] read: a line, or the end of the source.
 #[derive(Clone, Copy, PartialEq, Eq)]
 pub struct NextLine {
     /// What ended; `Line::None` only at the end of the source.
@@ -26,13 +26,13 @@ pub struct NextLine {
     pub is_last: bool,
 }
 
-/// The reader of the lines of a source.
+/// A reader of the lines of a source.
 #[derive(Drop)]
 pub struct Incoming<S: Source + Drop> {
     source: S,
     /// the line that is being read, or that was read last
     lines: LineBuffer,
-    /// the bytes that were read at once, of which those from `start` to `end` belong to later lines
+    /// the bytes that were read at once; those from `start` to `end` belong to later lines
     piece: Vec<u8>,
     start: usize,
     end: usize,
@@ -61,7 +61,7 @@ impl<S: Source + Drop> Incoming<S> {
     ghost use Rattle.ps_lines.specs.Incomings.{IsNextLine, due, lines_left};
     ghost use Rattle.ps_lines.specs.Streams.{TakesLine};
 
-    /// The reader of the lines of this source, of which nothing was read yet. Refused out of memory.
+    /// Creates a reader that has read nothing of the source yet. Fails when out of memory.
     ///
     /// Cost: the room of a line and of a piece.
     pub fn new(alloc: Global, source: S) -> Result<Incoming<S>, AllocError>
@@ -80,18 +80,16 @@ impl<S: Source + Drop> Incoming<S> {
         })
     }
 
-    /// The line that was read last, without a carriage return at its end.
-    ///
-    /// Cost: constant.
+    /// Returns the line that was read last, without a carriage return at its end.
     pub fn line(&self) -> &[u8]
         ensures { result.now ≡ without_return self.now.lines.line }
     {
         self.lines.line()
     }
 
-    /// Reads on to the end of a line.
+    /// Reads to the next line feed.
     ///
-    /// Cost: linear in the bytes of the line, but for the time that the source takes.
+    /// Cost: linear in the bytes of the line, and the time that the source takes.
     pub fn read_line(&mut self) -> Result<(), LineFault>
         requires ready { self.old.lines.pending ≡ Some [] }
         ensures ready { OnOk result (self.new.lines.pending ≡ Some []) }
@@ -119,9 +117,9 @@ impl<S: Source + Drop> Incoming<S> {
         }
     }
 
-    /// Reads on to the end of a line, or to that of the source, after which what remains is a line too.
+    /// Reads to the next line feed or the end of the source. What remains at the end is a line too.
     ///
-    /// Cost: linear in the bytes of the line, but for the time that the source takes.
+    /// Cost: linear in the bytes of the line, and the time that the source takes.
     pub fn next_line(&mut self) -> Result<NextLine, Failed>
         requires ready { self.old.lines.pending ≡ Some [] }
         ensures ready { OnOk result (self.new.lines.pending ≡ Some []) }
@@ -153,7 +151,7 @@ impl<S: Source + Drop> Incoming<S> {
         }
     }
 
-    /// Takes in what was read, up to the end of a line.
+    /// Takes in the bytes that were read, up to the end of a line.
     fn take_in(&mut self) -> Line
         requires some { self.old.start < self.old.end }
         ensures fed { (bytes : List ℕ) × Consumes (due S.remaining self.old) (due S.remaining self.new) bytes
@@ -166,7 +164,7 @@ impl<S: Source + Drop> Incoming<S> {
         fed.line
     }
 
-    /// Reads from the source where all that was read is taken in, and returns whether there is anything still.
+    /// Reads from the source once all earlier bytes are taken in, and returns whether any byte waits.
     fn fill(&mut self) -> Result<bool, Failed>
         ensures lines { self.new.lines ≡ self.old.lines }
         ensures same { Keeps (due S.remaining self.old) (due S.remaining self.new) }
@@ -185,7 +183,7 @@ impl<S: Source + Drop> Incoming<S> {
         Ok(self.end > 0)
     }
 
-    /// Why there is no line at the end of the input.
+    /// Returns why there is no line at the end of the input.
     fn end_of_input(&mut self) -> LineFault
         ensures due { due S.remaining self.new ≡ due S.remaining self.old }
         ensures source { self.new.source ≡ self.old.source }

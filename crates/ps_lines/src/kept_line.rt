@@ -1,4 +1,4 @@
-//! What a line of a kept file says, to whoever reads one.
+//! Reads a line of a kept file.
 ghost use Rattle.std.specs.Prelude.{◌≡◌, ◌⊎◌, Err, IfErr, IfOk, MatchOption};
 ghost use Rattle.ps_delta.specs.Deltas.{Entries};
 ghost use Rattle.ps_lines.specs.PushLine.{IsPush, Pushes};
@@ -19,20 +19,23 @@ use std::alloc::Global;
 /// What a line of a kept file says.
 #[derive(Drop)]
 pub enum KeptLine {
-    /// Whose the lines after it are: the replica of this number.
+    /// The replica of this number wrote the lines after this one.
     Replica(u8),
-    /// One change: this delta is pushed.
+    /// One change: this delta.
     Push(Delta),
 }
 
-/// What a line of a kept file says: the replica that it tells, in just the spelling of a kept file, or the delta that
-/// it pushes, in whatever spelling; none where it does neither. It is read as a session's command, by
-/// [`Command::read`].
+/// Returns what a line of a kept file says: its replica, or the delta that it pushes; none if it says neither.
 ///
-/// A line that begins with `push ` is refused as `Delta` where the rest is no line of a delta, and may be refused out
-/// of memory; any other line takes none. The decoder is lent for the line of a delta.
+/// The replica's line must have the exact spelling of a kept file; a delta may have any spelling. The line is read by
+/// [`Command::read`]. `decoder` reads the line of a delta.
 ///
-/// Cost: O(n) in the n bytes of the line, and where it begins with `push ` that of [`Decoder::decode`].
+/// # Errors
+///
+/// - `Delta`: the line begins with `push `, and the rest is no line of a delta.
+/// - `Memory`: out of memory; only for a line that begins with `push `.
+///
+/// Cost: O(n) in the n bytes of the line. A line that begins with `push ` also costs that of [`Decoder::decode`].
 pub fn read_kept_line(
     alloc: Global,
     decoder: &mut Decoder,
@@ -43,7 +46,7 @@ pub fn read_kept_line(
     ensures memory { result ≡ Err Refusal.Memory → IsPush line.now }
     ensures refused { IfErr result (λ e. (e ≡ Refusal.Delta) ⊎ (e ≡ Refusal.Memory)) }
 {
-    // no command of another verb is read, so that no other line takes memory
+    // reads no command of another verb, so that no other line takes memory
     if !may_be_kept(line) {
         return Ok(None);
     }
@@ -67,7 +70,7 @@ pub fn read_kept_line(
     }
 }
 
-/// Whether a line has one of the verbs that a kept file has.
+/// Returns whether the line has one of the two verbs of a kept file.
 fn may_be_kept(line: &[u8]) -> bool
     ensures { result ≡ is_kept_verb (verb_of (first_word line.now)) }
 {

@@ -1,20 +1,23 @@
-//! Lines: what each says, how bytes come together to lines, and how replies are written.
+//! Reads the lines of a session and of a kept file, and writes the replies.
 //!
-//! A [`LineBuffer`] puts bytes together to lines, in whatever pieces they come, and an [`Incoming`] reads the lines of
-//! a source. A [`Command`] is what a line asks for, and a [`Verb`] its first word. A [`Reply`] is what a line is
-//! answered, and [`send`] writes it; a [`Watcher`] looks on. A [`KeptLine`] is what a line of a kept file says.
-//! [`deltas_after`] and [`greatest_group`] find what a `pull` is answered, out of a list of deltas.
+//! - A [`LineBuffer`] puts bytes together to lines, in whatever pieces they come. An [`Incoming`] reads the lines of a
+//!   source.
+//! - A [`Command`] is what a line asks for, and a [`Verb`] its first word.
+//! - A [`Reply`] is the answer to a line. [`send`] writes it, and a [`Watcher`] observes it.
+//! - A [`KeptLine`] is what a line of a kept file says.
+//! - [`deltas_after`] and [`greatest_group`] find the answer to a `pull` in a list of deltas.
 //!
-//! It knows no sheet: what a command does, and what its reply tells, is the business of whoever obeys it.
+//! This crate knows no sheet: the session decides what a command does and what its reply holds.
 //!
 //! The contract to use is that of [`Command::read`]: what a line asks for, or the first refusal that holds
-//! (`ReadsLine`, in `specs/Commands.antt`); a line is refused as out of memory only where it takes some. That of
-//! [`LineBuffer::feed`] (`Feeds`, in `specs/Feeding.antt`) says that where a line is cut into pieces doesn't matter.
+//! (`ReadsLine`, in `specs/Commands.antt`). A line is refused as out of memory only if reading it allocates. The
+//! contract of [`LineBuffer::feed`] (`Feeds`, in `specs/Feeding.antt`) says that it doesn't matter where a line is cut
+//! into pieces.
 //!
-//! The line `set A1 5` is a command, `ok 1` and a line feed a reply, and `push [["A1",[1,1,"5"],[],[]]]` the line that
-//! pushes a delta, in a session as in a kept file.
+//! The line `set A1 5` is a command, and `ok 1` with a line feed a reply. The line `push [["A1",[1,1,"5"],[],[]]]`
+//! pushes a delta, in a session and in a kept file.
 //!
-//! Cost: a line costs its bytes, and the room of one line is taken once.
+//! Cost: linear in the bytes of a line; the room of one line is allocated once.
 #![tactic(auto)]
 
 mod command;
@@ -42,6 +45,6 @@ pub use line_buffer::{Fed, LINE_LIMIT, Line, LineBuffer, trimmed};
 pub use push_line::{push_pieces, put_push_line};
 pub use replica_line::{line_of_replica, put_replica_line};
 pub use reply::{Reply, send, send_pieces};
-pub use verb::{PULL, Verb};
+pub use verb::{PULL, Verb, WAIT};
 pub use watcher::{Outcome, Unwatched, Watcher};
 pub use words::{read_whole, split_part, split_word};

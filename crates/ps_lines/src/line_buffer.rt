@@ -9,7 +9,7 @@ use memchr::memchr;
 use std::alloc::{AllocError, Global};
 use std::marker::Model;
 
-/// The greatest number of bytes of a line, its line feed not counted.
+/// The greatest number of bytes of a line, without its line feed.
 pub const LINE_LIMIT: usize = 262_208;
 
 /// What a piece of the input ended.
@@ -17,29 +17,29 @@ pub const LINE_LIMIT: usize = 262_208;
 pub enum Line {
     /// No line.
     None,
-    /// A line, which [`LineBuffer::line`] lends.
+    /// A line; [`LineBuffer::line`] returns it.
     Full,
-    /// A line of more than [`LINE_LIMIT`] bytes, of which nothing is kept.
+    /// A line of more than [`LINE_LIMIT`] bytes; none of them is stored.
     TooLong,
 }
 
-/// How much of a piece was taken in, and what it ended.
+/// The number of bytes of a piece that were taken in, and what they ended.
 #[derive(Clone, Copy, PartialEq, Eq)]
 pub struct Fed {
-    /// How many bytes were taken, from the piece's first on.
+    /// The number of bytes taken, from the piece's first on.
     pub taken: usize,
     /// What the last of them ended.
     pub line: Line,
 }
 
-/// The buffer of a line: the line that is being read, out of bytes that come in any pieces.
+/// A buffer that puts bytes together to lines, in whatever pieces the bytes come.
 #[derive(Drop)]
 pub struct LineBuffer {
     /// The bytes of the line so far, or of the line that ended last.
     bytes: Vec<u8>,
     /// Whether the line has passed the limit.
     too_long: bool,
-    /// Whether `bytes` is a line that has ended.
+    /// Whether `bytes` is a whole line that has ended.
     ended: bool,
 }
 
@@ -55,7 +55,7 @@ impl Model for LineBuffer {
       line = s.bytes.items;
     } };
 
-    // Feeding takes no memory: there is room for a whole line.
+    // `feed` never allocates: there is room for a whole line.
     ghost invariant = { λ s. (vec_len s.bytes ≤ LINE_LIMIT) × (LINE_LIMIT ≤ vec_capacity s.bytes) };
 }
 
@@ -72,21 +72,21 @@ fn begin(bytes: &mut Vec<u8>, too_long: bool, ended: bool) -> bool
     too_long
 }
 
-/// Whether no byte of a line is held.
+/// Returns whether no byte of a line is held.
 fn holds_none(bytes: &[u8], too_long: bool, ended: bool) -> bool
     ensures { OnTrue result ((if ended then Some [] else held too_long bytes.now) ≡ Some []) }
 {
     ended || !too_long && bytes.is_empty()
 }
 
-/// What a line is once it has ended.
+/// Returns what a line is once it has ended.
 fn ended_line(too_long: bool) -> Line
     ensures { result ≡ (if too_long then Line.TooLong else Line.Full) }
 {
     if too_long { Line::TooLong } else { Line::Full }
 }
 
-/// Adds a part to a line that may be too long, and returns whether it is now.
+/// Adds a part to a line, and returns whether the line is too long now.
 fn keep(bytes: &mut Vec<u8>, too_long: bool, part: &[u8]) -> bool
     requires fits { vec_len bytes.old ≤ LINE_LIMIT }
     requires room { LINE_LIMIT ≤ vec_capacity bytes.old }
@@ -101,9 +101,7 @@ fn keep(bytes: &mut Vec<u8>, too_long: bool, part: &[u8]) -> bool
     false
 }
 
-/// A line without a carriage return at its end.
-///
-/// Cost: constant.
+/// Returns the line without the carriage return at its end, if it has one.
 pub fn trimmed(bytes: &[u8]) -> &[u8]
     ensures { result.now ≡ without_return bytes.now }
 {
@@ -117,7 +115,7 @@ pub fn trimmed(bytes: &[u8]) -> &[u8]
 impl LineBuffer {
     ghost use Rattle.ps_lines.specs.Feeding.{Ends, Feeds, with_line};
 
-    /// A buffer that holds nothing. Refused out of memory.
+    /// Creates an empty buffer, with room for one line. Fails when out of memory.
     ///
     /// Cost: the room of one line.
     pub fn new(alloc: Global) -> Result<LineBuffer, AllocError>
@@ -130,9 +128,9 @@ impl LineBuffer {
         })
     }
 
-    /// Takes bytes up to the next line feed, or all where there is none.
+    /// Takes in the piece up to its first line feed, or all of it if it has none. Takes no memory.
     ///
-    /// Cost: O(n) in the n bytes taken, and no memory.
+    /// Cost: O(n) in the n bytes taken.
     pub fn feed(&mut self, piece: &[u8]) -> Fed
         ensures within { result.taken ≤ length piece.now }
         ensures some { 0 < length piece.now → 0 < result.taken }
@@ -159,10 +157,12 @@ impl LineBuffer {
         }
     }
 
-    /// The place of the line feed of a line that lies whole at the front of a piece, where no byte of a line is held;
-    /// none where it is too long, or that isn't so. Such a line needn't be taken in.
+    /// Returns the position of the line feed of a line that lies whole at the front of the piece.
     ///
-    /// Cost: O(n) in the n bytes up to the place.
+    /// Returns none if a byte of a line is held, if the piece has no line feed, or if the line is too long. The line
+    /// needn't be fed: `&piece[..position]` is the line.
+    ///
+    /// Cost: O(n) in the n bytes up to the position.
     pub fn whole_line(&self, piece: &[u8]) -> Option<usize>
         ensures within { IfSome result (λ place. place < length piece.now) }
         ensures none_held { IfSome result (λ place. self.now.pending ≡ Some []) }
@@ -178,9 +178,7 @@ impl LineBuffer {
         }
     }
 
-    /// At the end of the input: what remains without a line feed.
-    ///
-    /// Cost: constant.
+    /// Ends the input: what remains without a line feed is a line, unless it is empty.
     pub fn end(&mut self) -> Line
         ensures { Ends self.old self.new result }
     {
@@ -197,9 +195,7 @@ impl LineBuffer {
         }
     }
 
-    /// The line that ended last, without a carriage return at its end.
-    ///
-    /// Cost: constant.
+    /// Returns the line that ended last, without a carriage return at its end.
     pub fn line(&self) -> &[u8]
         ensures { result.now ≡ without_return self.now.line }
     {

@@ -1,4 +1,4 @@
-//! How the line that pushes a delta is written.
+//! Writes the line that pushes a delta.
 ghost use Rattle.std.specs.Prelude.{◌≡◌, ◌⊎◌, ◌<◌, ◌++◌, Err, IfErr, OnOk, flat_map, length};
 ghost use Rattle.ps_grid.specs.declared.refusal.Refusal.TheVariants as refusals;
 ghost use Rattle.ps_wire.specs.Line.{IsLine, delta_text};
@@ -11,10 +11,12 @@ use ps_grid::Refusal;
 use ps_wire::encode;
 use std::alloc::Global;
 
-/// Appends the line that pushes a delta, without a line feed.
+/// Appends the line that pushes a delta, without a line feed. After an error a beginning of the line may be appended.
 ///
-/// Refused as `TooLong` only where the delta has no line, and out of memory. Then a beginning of the line may stand
-/// there.
+/// # Errors
+///
+/// - `TooLong`: the delta has no line, as its text is too long.
+/// - `Memory`: out of memory.
 ///
 /// Cost: that of [`encode`].
 pub fn put_push_line(alloc: Global, delta: &Delta, text: &mut Vec<u8>) -> Result<(), Refusal>
@@ -28,9 +30,7 @@ pub fn put_push_line(alloc: Global, delta: &Delta, text: &mut Vec<u8>) -> Result
     encode(alloc, delta, text)
 }
 
-/// The pieces of the line that pushes a delta's line, with its line feed.
-///
-/// Cost: constant.
+/// Returns the pieces of the line that pushes the delta of this line, with its line feed.
 pub fn push_pieces(delta: &[u8]) -> [&[u8]; 4]
     ensures { flat_map (λ piece. piece.now) result ≡ push_text delta.now }
 {

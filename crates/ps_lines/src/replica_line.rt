@@ -1,4 +1,4 @@
-//! How the line that tells a replica is written, the first one of a kept file: whose the lines after it are.
+//! Writes the first line of a kept file: the number of the replica that wrote the lines after it.
 ghost use Rattle.std.specs.Prelude.{◌≡◌, ◌++◌, Decides, IfOk, OnOk};
 ghost use Rattle.ps_lines.specs.ReplicaLine.{replica_line};
 
@@ -7,9 +7,7 @@ use crate::words::rest_after;
 use itoa::Buffer;
 use std::alloc::{AllocError, Global};
 
-/// Appends the line of a replica, without a line feed. Refused out of memory.
-///
-/// Cost: constant.
+/// Appends the line of a replica, without a line feed. Fails when out of memory.
 pub fn put_replica_line(replica: u8, text: &mut Vec<u8>) -> Result<(), AllocError>
     ensures { OnOk result (text.new.items ≡ text.old.items ++ replica_line replica) }
 {
@@ -20,9 +18,7 @@ pub fn put_replica_line(replica: u8, text: &mut Vec<u8>) -> Result<(), AllocErro
     Ok(())
 }
 
-/// The line of a replica, without a line feed. Refused out of memory.
-///
-/// Cost: constant.
+/// Returns the line of a replica, without a line feed. Fails when out of memory.
 pub fn line_of_replica(alloc: Global, replica: u8) -> Result<Vec<u8>, AllocError>
     ensures { IfOk result (λ line. line.items ≡ replica_line replica) }
 {
@@ -31,7 +27,7 @@ pub fn line_of_replica(alloc: Global, replica: u8) -> Result<Vec<u8>, AllocError
     Ok(line)
 }
 
-/// Whether a line is just that of a replica: a number has more than one spelling, as 7 and 07.
+/// Returns whether a line is exactly that of the replica. As a number, 7 has other spellings, such as 07.
 pub(crate) fn is_replica_line(line: &[u8], replica: u8) -> bool
     ensures { Decides result (line.now ≡ replica_line replica) }
 {

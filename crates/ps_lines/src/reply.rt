@@ -1,4 +1,4 @@
-//! What a line is answered.
+//! The reply to a line.
 ghost use Rattle.std.specs.Prelude.{◌≡◌, ◌<◌, ◌≤◌, ◌+◌, ◌++◌, ◌∷◌, [], OnErr, OnOk, codes, decimal, drop};
 ghost use Rattle.std.specs.Prelude.{flat_map, length};
 ghost use Rattle.std.specs.Fmt.{signed_decimal};
@@ -6,44 +6,44 @@ ghost use Rattle.ps_device.specs.Device.{Sends};
 ghost use Rattle.ps_value.specs.Shown.{shown_text};
 ghost use Rattle.ps_lines.specs.Replies.{entry_reply, reply_text};
 
-use crate::reply_words::{DELTA, END, ENTRIES, ENTRY, ERR, OK, REPLICA, ROWS, SAME, VAL};
+use crate::reply_words::{DELTA, END, ENTRIES, ENTRY, ERR, OK, REPLICA, ROWS, SAME, VAL, VERSION};
 use crate::watcher::Outcome;
 use itoa::{Buffer, write_digits};
 use ps_device::{Failed, Sink, put_all};
 use ps_grid::Refusal;
 use ps_value::{Value, write_shown};
 
-/// The reply to a line.
+/// The reply to a line. Each variant is named with the reply's first word and what follows it.
 #[derive(Drop)]
 pub enum Reply {
     /// `ok` and the version.
     Done(u64),
-    /// .. where a delta was taken in of which the own replica made a part that the board hadn't, which isn't told.
+    /// The same text as `Done`, for a delta that had changes of the own replica which the board hadn't.
     DoneElsewhere(u64),
-    /// `same` and the version, where nothing was new of a delta that was merged.
+    /// `same` and the version: nothing of a merged delta was new.
     Same(u64),
     /// `val` and what the cell shows.
     Shown(Value),
-    /// `rows` and how many lines a table has, and then the lines, each with its line feed.
+    /// `rows`, the number of lines of a table, and then these lines, each with its line feed.
     Rows(u64, Vec<u8>),
     /// `entry` and what the cell holds.
     Entry(Vec<u8>),
-    /// `entries` and how many lines a table of entries has, and then the lines, each with its line feed.
+    /// `entries`, the number of lines of a table of entries, and then these lines, each with its line feed.
     Entries(u64, Vec<u8>),
-    /// `delta`, the version after it and its line.
+    /// `delta`, the version after the delta, and its line.
     Delta(u64, Vec<u8>),
     /// `end` and the version.
     End(u64),
-    /// `replica` and the own replica.
+    /// `replica` and the number of the own replica.
     Replica(u8),
+    /// `version` and the version, after a session waited for changes.
+    Version(u64),
     /// `err`, the refusal's number and its name.
     Refused(Refusal),
 }
 
 impl Reply {
-    /// What became of the line, for who looks on.
-    ///
-    /// Cost: constant.
+    /// Returns what became of the line, for an observer.
     pub fn outcome(&self) -> Outcome {
         match self {
             Reply::Refused(refusal) => Outcome::Refused(*refusal),
@@ -56,12 +56,13 @@ impl Reply {
             | Reply::Entries(..)
             | Reply::Delta(..)
             | Reply::End(_)
-            | Reply::Replica(_) => Outcome::Answered,
+            | Reply::Replica(_)
+            | Reply::Version(_) => Outcome::Answered,
         }
     }
 }
 
-/// Writes the pieces one after another; where the sink fails, a beginning of them.
+/// Writes the pieces one after another. If the sink fails, a beginning of them is written.
 ///
 /// Cost: O(n) in the n bytes of the pieces.
 pub fn send_pieces<K: Sink>(pieces: &[&[u8]], sink: &mut K) -> Result<(), Failed>
@@ -117,7 +118,7 @@ fn send_shown<K: Sink>(value: &Value, sink: &mut K) -> Result<(), Failed>
     }
 }
 
-/// Writes a reply and its line feed; where the sink fails, a beginning of that.
+/// Writes a reply and its line feed. If the sink fails, a beginning of them is written.
 ///
 /// Cost: O(n) in the n bytes of the reply, in a constant number of pieces.
 #[inline(always)]
@@ -136,6 +137,7 @@ pub fn send<K: Sink>(reply: &Reply, sink: &mut K) -> Result<(), Failed>
         Reply::Delta(last, line) => send_words(DELTA, *last, line, sink),
         Reply::End(version) => send_number(END, *version, sink),
         Reply::Replica(number) => send_number(REPLICA, u64::from(*number), sink),
+        Reply::Version(version) => send_number(VERSION, *version, sink),
         Reply::Refused(refusal) => send_words(
             ERR,
             u64::from(refusal.number()),
@@ -145,7 +147,7 @@ pub fn send<K: Sink>(reply: &Reply, sink: &mut K) -> Result<(), Failed>
     }
 }
 
-/// How many bytes a word with its space, a number and a line feed have at most, and a few more.
+/// The most bytes of a word with its space, a number and a line feed, and a few more.
 const ROOM: usize = 32;
 
 /// Writes a word with its space, a number and a line feed, in one piece.
@@ -170,7 +172,7 @@ fn write_numbered(word: &[u8], number: u64, line: &mut [u8]) -> usize
     ensures written { drop result line.new ≡ word.now ++ decimal number ++ drop 31 line.old }
     ensures within { result ≤ length line.new }
 {
-    // from its end on, as the digits come
+    // backwards, as the digits come
     let digits = write_digits(number, line, ROOM - 1);
     write_before(word, line, digits)
 }
@@ -219,7 +221,7 @@ fn write_before(bytes: &[u8], line: &mut [u8], end: usize) -> usize
     start
 }
 
-/// Writes a word with its space, a number, a text after a space, and a line feed: up to the text in one piece.
+/// Writes a word with its space, a number, a space and a text, and a line feed. All before the text is one piece.
 fn send_words<K: Sink>(word: &[u8], number: u64, text: &[u8], sink: &mut K) -> Result<(), Failed>
     requires short { length word.now ≤ 11 }
     ensures sent { Sends (K.contents sink.old) (K.contents sink.new) result
@@ -233,7 +235,7 @@ fn send_words<K: Sink>(word: &[u8], number: u64, text: &[u8], sink: &mut K) -> R
     send_pieces(pieces.as_slice(), sink)
 }
 
-/// Writes the entry of a cell.
+/// Writes `entry` and the entry of a cell.
 fn send_entry<K: Sink>(entry: &[u8], sink: &mut K) -> Result<(), Failed>
     ensures sent { Sends (K.contents sink.old) (K.contents sink.new) result (entry_reply entry.now) }
     ensures calm { OnOk result (K.failures sink.new ≡ K.failures sink.old) }
@@ -243,7 +245,7 @@ fn send_entry<K: Sink>(entry: &[u8], sink: &mut K) -> Result<(), Failed>
     send_pieces(pieces.as_slice(), sink)
 }
 
-/// Writes a word with its space, how many lines a table has, and the table.
+/// Writes a word with its space, the number of a table's lines, and the table.
 fn send_table<K: Sink>(word: &[u8], count: u64, table: &[u8], sink: &mut K) -> Result<(), Failed>
     ensures sent { Sends (K.contents sink.old) (K.contents sink.new) result
         (word.now ++ decimal count ++ 10 ∷ table.now) }

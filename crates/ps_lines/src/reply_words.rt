@@ -1,32 +1,36 @@
-//! The first word of each reply, with its space: what writes a reply and what reads one take it from here. (The page,
-//! which reads no lines, has `rows ` and `entries ` of its own, and hints have `delta `.)
+//! The first word of each reply, with its space, for whoever writes or reads a reply.
+//!
+//! The page reads no lines and has its own `rows ` and `entries `. The hints have their own `delta `.
 
-/// Of [`Reply::Done`](crate::Reply::Done).
+/// The word of [`Reply::Done`](crate::Reply::Done).
 pub const OK: &[u8] = b"ok ";
 
-/// Of [`Reply::Same`](crate::Reply::Same).
+/// The word of [`Reply::Same`](crate::Reply::Same).
 pub const SAME: &[u8] = b"same ";
 
-/// Of [`Reply::Shown`](crate::Reply::Shown).
+/// The word of [`Reply::Shown`](crate::Reply::Shown).
 pub const VAL: &[u8] = b"val ";
 
-/// Of [`Reply::Rows`](crate::Reply::Rows).
+/// The word of [`Reply::Rows`](crate::Reply::Rows).
 pub const ROWS: &[u8] = b"rows ";
 
-/// Of [`Reply::Entry`](crate::Reply::Entry).
+/// The word of [`Reply::Entry`](crate::Reply::Entry).
 pub const ENTRY: &[u8] = b"entry ";
 
-/// Of [`Reply::Entries`](crate::Reply::Entries).
+/// The word of [`Reply::Entries`](crate::Reply::Entries).
 pub const ENTRIES: &[u8] = b"entries ";
 
-/// Of [`Reply::Delta`](crate::Reply::Delta).
+/// The word of [`Reply::Delta`](crate::Reply::Delta).
 pub const DELTA: &[u8] = b"delta ";
 
-/// Of [`Reply::End`](crate::Reply::End).
+/// The word of [`Reply::End`](crate::Reply::End).
 pub const END: &[u8] = b"end ";
 
-/// Of [`Reply::Replica`](crate::Reply::Replica).
+/// The word of [`Reply::Replica`](crate::Reply::Replica).
 pub const REPLICA: &[u8] = b"replica ";
 
-/// Of [`Reply::Refused`](crate::Reply::Refused).
+/// The word of [`Reply::Version`](crate::Reply::Version).
+pub const VERSION: &[u8] = b"version ";
+
+/// The word of [`Reply::Refused`](crate::Reply::Refused).
 pub const ERR: &[u8] = b"err ";

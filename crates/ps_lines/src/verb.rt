@@ -1,8 +1,8 @@
-//! The first word of a line.
+//! The first words of lines.
 ghost use Rattle.std.specs.Prelude.{◌≡◌, Contains, Some};
 ghost use Rattle.ps_lines.specs.Commands.{verb_of};
 
-// The word of each verb, which a line is read by and written with.
+// The word of each verb, for reading and for writing lines.
 const GET: &str = "get";
 
 const SET: &str = "set";
@@ -25,47 +25,50 @@ pub(crate) const PUSH: &str = "push";
 
 const MERGE: &str = "merge";
 
-/// The word of [`Verb::Pull`], for who asks a peer.
+/// The word of [`Verb::Pull`], for a client that asks a peer.
 pub const PULL: &str = "pull";
 
 pub(crate) const REPLICA: &str = "replica";
 
-/// What a line is to do: its first word.
+/// The word of [`Verb::Wait`], for a session that looks ahead.
+pub const WAIT: &str = "wait";
+
+/// What a line asks for, by its first word.
 #[derive(Clone, Copy, Debug)]
 pub enum Verb {
-    /// `get`: a cell is to be shown.
+    /// `get`: show a cell.
     Get,
-    /// `set`: a cell is to be given what an entry stands for.
+    /// `set`: give a cell what an entry stands for.
     Set,
-    /// `add`: an amount is to be added to a counter.
+    /// `add`: add an amount to a counter.
     Add,
-    /// `sub`: an amount is to be taken from a counter.
+    /// `sub`: take an amount from a counter.
     Sub,
-    /// `choose`: an option is to be put into a set.
+    /// `choose`: put an option into a set.
     Choose,
-    /// `unchoose`: an option is to be taken out of a set.
+    /// `unchoose`: take an option out of a set.
     Unchoose,
-    /// `rows`: a rectangle is to be shown.
+    /// `rows`: show a rectangle.
     Rows,
-    /// `entry`: what a cell holds is to be told.
+    /// `entry`: return the entry of a cell.
     Entry,
-    /// `entries`: what the cells of a rectangle hold is to be told.
+    /// `entries`: return the entries of a rectangle.
     Entries,
-    /// `push`: a delta is to be taken in.
+    /// `push`: take in a delta.
     Push,
-    /// `merge`: what is new of a delta is to be taken in.
+    /// `merge`: take in what is new of a delta.
     Merge,
-    /// `pull`: deltas are to be handed out.
+    /// `pull`: return deltas.
     Pull,
-    /// `replica`: the own replica is to be told.
+    /// `replica`: return the own replica.
     Replica,
+    /// `wait`: return the version once there are more changes.
+    Wait,
 }
 
 impl Verb {
-    /// All verbs.
-    ///
-    /// Cost: constant.
-    pub fn all() -> [Verb; 13]
+    /// Returns all verbs.
+    pub fn all() -> [Verb; 14]
         ensures { (verb : Verb) → Contains result verb }
     {
         [
@@ -82,12 +85,11 @@ impl Verb {
             Verb::Merge,
             Verb::Pull,
             Verb::Replica,
+            Verb::Wait,
         ]
     }
 
-    /// The word that the verb is read from.
-    ///
-    /// Cost: constant.
+    /// Returns the word of the verb.
     #[tactic(auto, unfolding(crate::specs::Commands::verb_of))]
     pub fn name(self) -> &'static str
         ensures { verb_of result.now ≡ Some self }
@@ -106,12 +108,11 @@ impl Verb {
             Verb::Merge => MERGE,
             Verb::Pull => PULL,
             Verb::Replica => REPLICA,
+            Verb::Wait => WAIT,
         }
     }
 
-    /// The verb that a word is.
-    ///
-    /// Cost: constant.
+    /// Returns the verb of a word, if it is one.
     #[inline(always)]
     #[tactic(auto, unfolding(crate::specs::Commands::verb_of))]
     pub fn read(word: &[u8]) -> Option<Verb>
@@ -143,6 +144,8 @@ impl Verb {
             Some(Verb::Pull)
         } else if word == REPLICA.as_bytes() {
             Some(Verb::Replica)
+        } else if word == WAIT.as_bytes() {
+            Some(Verb::Wait)
         } else {
             None
         }

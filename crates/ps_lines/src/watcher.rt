@@ -1,4 +1,4 @@
-//! Who looks on at a session.
+//! Observers of a session's lines.
 
 use ps_grid::Refusal;
 
@@ -9,21 +9,22 @@ pub enum Outcome {
     Answered,
     /// It was refused.
     Refused(Refusal),
-    /// It was answered, and it pushed changes of the own replica that the sheet hadn't: so the replica's number is used
+    /// It was answered, and it pushed changes of the own replica that the sheet hadn't. So the replica's number is used
     /// elsewhere, too, or changes were lost.
     Elsewhere,
 }
 
-/// Who looks on at the lines of a session. It changes nothing that the session does, so its call promises nothing.
+/// An observer of a session's lines. It can't change what the session does, so its call promises nothing.
 pub trait Watcher {
-    /// Sees a line that ended, without its line feed and a carriage return before it, and what became of it. An empty
-    /// line is one, too. Of one that is too long nothing is left to see.
+    /// Sees a line that ended, without its line feed and a carriage return before it, and its outcome.
+    ///
+    /// An empty line is seen, too. A line that is too long is seen as an empty one: none of its bytes is stored.
     ///
     /// Cost: the watcher's own.
     fn saw(&mut self, line: &[u8], outcome: Outcome);
 }
 
-/// A watcher that looks away.
+/// A watcher that does nothing.
 #[derive(Clone, Copy, Debug)]
 pub struct Unwatched;
 

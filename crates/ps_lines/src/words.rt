@@ -5,7 +5,7 @@ ghost use Rattle.ps_lines.specs.Words.{after_part, after_word, first_part, first
 
 use ps_grid::read_digits;
 
-/// The bytes before the first space, and those after it where there is one.
+/// Returns the bytes before the first space, and those after it if there is one.
 ///
 /// Cost: O(n) in the n bytes before the space.
 pub fn split_word(text: &[u8]) -> (&[u8], Option<&[u8]>)
@@ -18,7 +18,7 @@ pub fn split_word(text: &[u8]) -> (&[u8], Option<&[u8]>)
     split_part(text, b' ')
 }
 
-/// The bytes before the first separator, and those after it where there is one.
+/// Returns the bytes before the first separator, and those after it if there is one.
 ///
 /// Cost: O(n) in the n bytes before the separator.
 pub fn split_part(text: &[u8], separator: u8) -> (&[u8], Option<&[u8]>)
@@ -35,14 +35,14 @@ pub fn split_part(text: &[u8], separator: u8) -> (&[u8], Option<&[u8]>)
     }
 }
 
-/// The place of the first separator, where there is one.
+/// Returns the position of the first separator.
 fn first_place(text: &[u8], separator: u8) -> Option<usize>
     ensures { result ≡ position (λ b. b == separator) text.now }
 {
     text.iter().position(|b| *b == separator)
 }
 
-/// What stands after a word and a space, where a text begins with them.
+/// Returns what stands after a word and a space, if the text begins with them.
 pub(crate) fn rest_after<'a>(text: &'a [u8], word: &str) -> Option<&'a [u8]>
     ensures { MatchOption result ((rest : List ℕ) → text.now ≢ word.now ++ 32 ∷ rest)
         (λ rest. text.now ≡ word.now ++ 32 ∷ rest.now) }
@@ -50,7 +50,7 @@ pub(crate) fn rest_after<'a>(text: &'a [u8], word: &str) -> Option<&'a [u8]>
     text.strip_prefix(word.as_bytes())?.strip_prefix(b" ")
 }
 
-/// The number that a word of decimal digits writes; none where it is no such word, or the number has more than 64 bits.
+/// Returns the number that decimal digits write; none for any other word, or a number of more than 64 bits.
 ///
 /// Cost: O(n) in the n bytes of the word.
 pub fn read_whole(word: &[u8]) -> Option<u64>

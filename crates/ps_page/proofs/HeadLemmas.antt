@@ -11,14 +11,15 @@ use Rattle.httparse.specs.declared.spans.RequestSpans.{RequestSpans}
 use Rattle.websocket.specs.Handshake.{Answers as AnswersKey}
 use Rattle.websocket.specs.Headers.{fields_of}
 use Rattle.websocket.specs.declared.handshake.failure.HandshakeError.{HandshakeError}
-use Rattle.ps_page.specs.Heads.{Answers, AnswersBytes, AnswersHead, Follows, Opens, Verdict, about, live, page, refusal}
+use Rattle.ps_page.specs.Heads.{Answers, AnswersBytes, AnswersHead, Follows, Opens, Verdict, about, live}
+use Rattle.ps_page.specs.Heads.{news, page, refusal}
 use Rattle.ps_page.specs.declared.head.Answer.{Answer}
 use Rattle.ps_page.specs.declared.head.Refused.TheVariants.{BadRequest}
 
-pub refused_opens : (r : Result (List ℕ) HandshakeError) (e : HandshakeError) → AnswersKey (Err e) r
-    → Opens r (Answer.Refuse BadRequest)
-refused_opens (Ok key) e a = inr (a.0, refl)
-refused_opens (Err x) e a = refl
+pub refused_opens : (opened : List ℕ → Answer) (r : Result (List ℕ) HandshakeError) (e : HandshakeError)
+    → AnswersKey (Err e) r → Opens opened r (Answer.Refuse BadRequest)
+refused_opens opened (Ok key) e a = inr (a.0, refl)
+refused_opens opened (Err x) e a = refl
 
 never_more : (v : Verdict) (key : Result (List ℕ) HandshakeError) → ¬ (Follows v key Answer.More)
 never_more page key e = cc
@@ -26,6 +27,9 @@ never_more about key e = cc
 never_more live (Ok key) (inl o) = cc
 never_more live (Ok key) (inr o) = cc
 never_more live (Err x) e = cc
+never_more news (Ok key) (inl o) = cc
+never_more news (Ok key) (inr o) = cc
+never_more news (Err x) e = cc
 never_more (refusal r) key e = cc
 
 -- no head that is whole is answered as if it were half
@@ -34,6 +38,7 @@ answered buf Answer.More a = absurd (never_more _ _ a.2)
 answered buf Answer.Page a = inl a
 answered buf Answer.About a = inl a
 answered buf (Answer.Live key) a = inl a
+answered buf (Answer.News key) a = inl a
 answered buf (Answer.Refuse r) a = inl a
 
 -- what the spans of a whole head are answered by, the bytes are

@@ -1,4 +1,4 @@
--- What the head of a request is answered by.
+-- The answer to the head of a request.
 use Rattle.std.specs.Prelude.{◌≡◌, ◌≢◌, ◌==◌, ◌⊎◌, ◌<◌, ◌≤◌, ℕ, Bool, false, cond, not, ◌||◌, ◌&&◌, nat_lt, take}
 use Rattle.std.specs.Prelude.{drop, List, [], ◌∷◌, map, length, codes, bytes_eq, Option, None, Some, Result, true}
 use Rattle.std.specs.Prelude.{Ok, Err}
@@ -31,8 +31,8 @@ only_value (h ∷ hs) name =
 abbrev pub colon : ℕ
 colon = 58
 
--- what may follow a name: a colon and a port's digits, or nothing, which means the port of HTTP. Whoever comes through
--- a forwarded port names that one, so any will do
+-- what may follow a name: a colon and a port's digits, or nothing, which means the port of HTTP. A client that uses a
+-- forwarded port names that port, so any will do
 abbrev pub is_port : List ℕ → Bool
 is_port [] = true
 is_port (first ∷ digits) = first == colon && list_all is_ascii_digit digits
@@ -63,32 +63,34 @@ is_own_origin (Some origin) (Some host) = follows origin (codes "http://") host
 
 -- what a request of this machine asks for
 pub data Verdict : Type 0 where
-  page about live : Verdict
+  page about live news : Verdict
   refusal : Refused → Verdict
 
--- a foreign host is refused first, so that no name that a foreign page has resolved to this machine gets further;
--- a WebSocket goes to a page of the same host and port alone
+-- a foreign host is refused first, so that no name that a foreign page has resolved to this machine gets further; a
+-- WebSocket, for a session or for the news, goes only to a page of the same host and port
 abbrev pub verdict : List ℕ → List ℕ → Fields → Verdict
 verdict method path fields =
     cond (not (is_own_host (only_value fields (codes "Host")))) (refusal Forbidden)
     (cond (not (bytes_eq method (codes "GET"))) (refusal NotAllowed)
     (cond (bytes_eq path (codes "/")) page
     (cond (bytes_eq path (codes "/about")) about
-    (cond (not (bytes_eq path (codes "/live"))) (refusal NotFound)
+    (cond (not (bytes_eq path (codes "/live")) && not (bytes_eq path (codes "/news"))) (refusal NotFound)
     (cond (not (is_own_origin (only_value fields (codes "Origin")) (only_value fields (codes "Host"))))
-    (refusal Forbidden) live)))))
+    (refusal Forbidden)
+    (cond (bytes_eq path (codes "/news")) news live))))))
 
--- an upgrade with a valid key is answered by its accept key
-abbrev pub Opens : Result (List ℕ) HandshakeError → Answer → Type 0
-Opens (Err e) answer = answer ≡ Answer.Refuse BadRequest
-Opens (Ok key) answer =
-    (IsValidKey key × (answer ≡ Answer.Live (accept_key_of key)))
+-- an upgrade with a valid key is answered by its accept key, in this way
+abbrev pub Opens : (List ℕ → Answer) → Result (List ℕ) HandshakeError → Answer → Type 0
+Opens opened (Err e) answer = answer ≡ Answer.Refuse BadRequest
+Opens opened (Ok key) answer =
+    (IsValidKey key × (answer ≡ opened (accept_key_of key)))
     ⊎ (¬ (IsValidKey key) × (answer ≡ Answer.Refuse BadRequest))
 
 abbrev pub Follows : Verdict → Result (List ℕ) HandshakeError → Answer → Type 0
 Follows page key answer = answer ≡ Answer.Page
 Follows about key answer = answer ≡ Answer.About
-Follows live key answer = Opens key answer
+Follows live key answer = Opens Answer.Live key answer
+Follows news key answer = Opens Answer.News key answer
 Follows (refusal r) key answer = answer ≡ Answer.Refuse r
 
 -- the answer is what a head asks for
@@ -106,20 +108,19 @@ Answers buf answer =
 abbrev pub IsNoHead : List ℕ → Type 0
 IsNoHead buf = (h : RequestHead) → ReadsRequest buf h [] → 64 < length h.fields
 
--- what bytes are answered by: more bytes where they are no head yet and may become one; else what the head asks for
+-- the answer to bytes: `More` if they are no head yet and may become one; else what the head asks for
 abbrev pub AnswersBytes : List ℕ → Answer → Type 0
 AnswersBytes buf Answer.More = HasNoRequest buf × MayBecomeRequest buf
 AnswersBytes buf answer = Answers buf answer ⊎ ((answer ≡ Answer.Refuse BadRequest) × IsNoHead buf)
 
--- the bytes of a head and what they are answered by: they are too many and refused as such, or at most so many and
--- enough
+-- the answer to the bytes of a head: they are too many and refused as such, or at most `HEAD_LIMIT` and enough
 abbrev pub AnswersRead : List ℕ → Answer → Type 0
 AnswersRead bytes answer =
     ((HEAD_LIMIT < length bytes) × (answer ≡ Answer.Refuse TooLarge))
     ⊎ ((length bytes ≤ HEAD_LIMIT) × (answer ≢ Answer.More) × AnswersBytes bytes answer)
 
--- what is answered to a reader that had `old` to come and has `new`: what the bytes are answered by that it gave, or
--- that they came too late
+-- the answer to a reader that had `old` to come and has `new`: that to the bytes that it returned, or that they came
+-- too late
 abbrev pub AnswersReader : Option (List ℕ) → Option (List ℕ) → Answer → Type 0
 AnswersReader old new answer =
     (answer ≡ Answer.Refuse TooLate) ⊎ ((bytes : List ℕ) × Consumes old new bytes × AnswersRead bytes answer)

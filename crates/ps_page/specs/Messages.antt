@@ -7,7 +7,7 @@ use Rattle.tungstenite.specs.Socket.{Socket, Reads, content_of}
 use Rattle.tungstenite.specs.declared.message.Message.{Message}
 use Rattle.ps_page.specs.Heads.{AnswersReader}
 use Rattle.ps_page.specs.declared.greeting.Greeted.{Greeted}
-use Rattle.ps_page.specs.declared.greeting.Greeted.TheVariants.{Answered, Live}
+use Rattle.ps_page.specs.declared.greeting.Greeted.TheVariants.{Answered, Live, News}
 use Rattle.ps_page.specs.declared.head.Answer.{Answer}
 use Rattle.ps_page.specs.declared.response.TheConstants.{ABOUT_HEAD}
 use Rattle.ps_page.specs.declared.socket.Heard.{Heard}
@@ -36,7 +36,7 @@ IsIdle (Message.Ping s) = ⊤
 IsIdle (Message.Pong s) = ⊤
 IsIdle (Message.Close frame) = ⊤
 
--- HEARD: the socket read one message. It was one line, which is here now with a line feed; or it says nothing
+-- HEARD: the socket read one message. It was one line, which `bytes` has with a line feed; or it says nothing
 abbrev pub Hears : {S : Type 0} → (S → Option (List ℕ)) → Socket S → Socket S → List ℕ → Heard → Type 0
 Hears remaining old new bytes Line =
     (message : Message) × (line : List ℕ) × Reads remaining old new (Ok message) × (content_of message ≡ text line)
@@ -48,9 +48,14 @@ Hears remaining old new bytes Left = ⊤
 -- GREETED: a WebSocket is opened only for a head that asks for it from this server's own page
 abbrev pub Greets : Option (List ℕ) → Option (List ℕ) → Greeted → Type 0
 Greets old new Live = (key : _) × AnswersReader old new (Answer.Live key)
+Greets old new News = (key : _) × AnswersReader old new (Answer.News key)
 Greets old new Answered = ⊤
 
--- what is said of a sheet: how many are here, and its title, a line each
+-- the message that reports how many changes there are
+abbrev pub version_text : ℕ → List ℕ
+version_text version = codes "version " ++ decimal version
+
+-- the facts about a sheet: how many are here, and its title, a line each
 abbrev pub about_lines : ℕ → List ℕ → List ℕ
 about_lines here title = decimal here ++ line_feed ∷ title ++ line_feed ∷ []
 

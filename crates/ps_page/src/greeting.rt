@@ -1,8 +1,9 @@
-//! What a browser asks for, and how it is answered.
-ghost use Rattle.std.specs.Prelude.{◌≡◌};
+//! Reads and answers the request of a browser.
+ghost use Rattle.std.specs.Prelude.{◌≡◌, true};
 ghost use Rattle.ps_page.specs.Messages.{Greets};
+ghost use Rattle.ps_page.specs.declared.greeting.Greeted.TheVariants as Greeted;
 
-use crate::head::{Answer, read_head};
+use crate::head::{Answer, Refused, read_head};
 use crate::page::PAGE;
 use crate::response::{About, respond, respond_about, respond_page};
 use std::alloc::Global;
@@ -18,16 +19,21 @@ const HEAD_SECONDS: u64 = 10;
 /// How long a browser may leave a response unread, in seconds.
 const UNREAD_SECONDS: u64 = 10;
 
-/// How many bytes are read at once.
+/// How long the rest of the input is read after a response, in seconds.
+const DRAIN_SECONDS: u64 = 1;
+
+/// The most bytes of one read.
 const PIECE_BYTES: usize = 4096;
 
-/// What the connection of a browser is, once its request was read.
+/// What the connection of a browser is after its request was read.
 #[derive(Clone, Copy, Debug, PartialEq, Eq)]
 pub enum Greeted {
     /// Its request was answered.
     Answered,
-    /// It is a WebSocket now.
+    /// It is now the WebSocket of a session.
     Live,
+    /// It is now a WebSocket that reports changes.
+    News,
 }
 
 /// A connection that can be read until a time.
@@ -51,18 +57,21 @@ impl<C: Clock> Read for Timed<'_, C> {
     }
 }
 
-/// A connection that can be read for so many seconds from now on.
-fn until<'a, C: Clock>(clock: &'a C, stream: &'a TcpStream, seconds: u64) -> Option<Timed<'a, C>> {
-    let end = Instant::now(clock)
-        .ok()?
-        .checked_add(Duration::from_secs(seconds))?;
+/// Returns a connection that can be read for this time from now on.
+fn until<'a, C: Clock>(
+    clock: &'a C,
+    stream: &'a TcpStream,
+    time: Duration,
+) -> Option<Timed<'a, C>> {
+    let end = Instant::now(clock).ok()?.checked_add(time)?;
     Some(Timed { stream, clock, end })
 }
 
-/// Answers the request of a browser, whose first bytes, `front`, were read already. It has ten seconds for the rest of
-/// the head. A connection that was answered has ended its output.
+/// Answers the request of a browser; its first bytes, `front`, were read already.
 ///
-/// Cost: linear in the bytes of the head and of the page, but for the time that the browser takes.
+/// The browser has ten seconds for the rest of the head. The output of an answered connection is ended.
+///
+/// Cost: linear in the bytes of the head and of the page, and the time that the browser takes.
 pub fn greet<C: Clock>(
     clock: &C,
     alloc: Global,
@@ -71,28 +80,29 @@ pub fn greet<C: Clock>(
     about: About<'_>,
 ) -> Greeted {
     let _ = stream.set_write_timeout(Some(Duration::from_secs(UNREAD_SECONDS)));
-    let Some(reader) = until(clock, stream, HEAD_SECONDS) else {
+    let Some(reader) = until(clock, stream, Duration::from_secs(HEAD_SECONDS)) else {
         return Greeted::Answered;
     };
     let mut reader = front.chain(reader);
     let mut writer = stream;
     let greeted = answer_request(alloc, &mut reader, &mut writer, about);
     if greeted == Greeted::Answered {
-        drain(clock, stream);
+        drain(clock, stream, Duration::from_secs(DRAIN_SECONDS));
     }
     greeted
 }
 
 /// Reads the head of a request, and answers it.
 ///
-/// Cost: linear in the bytes of the head and of the page, but for the time that both sides take.
+/// Cost: linear in the bytes of the head and of the page, and the time that both sides take.
 pub fn answer_request<R: Read, W: Write>(
     alloc: Global,
     reader: &mut R,
     writer: &mut W,
     about: About<'_>,
 ) -> Greeted
-    ensures { Greets (R.remaining reader.old) (R.remaining reader.new) result }
+    ensures greets { Greets (R.remaining reader.old) (R.remaining reader.new) result }
+    ensures room { result ≡ Greeted.News → about.entry.has_room ≡ true }
 {
     match read_head(alloc, reader) {
         Some(Answer::Page) => {
@@ -108,6 +118,13 @@ pub fn answer_request<R: Read, W: Write>(
                 return Greeted::Live;
             }
         }
+        Some(Answer::News(accept)) => {
+            if !about.has_room {
+                let _ = respond(writer, Refused::Unavailable);
+            } else if is_opened(alloc, &accept, writer) {
+                return Greeted::News;
+            }
+        }
         Some(Answer::Refuse(refused)) => {
             let _ = respond(writer, refused);
         }
@@ -116,18 +133,18 @@ pub fn answer_request<R: Read, W: Write>(
     Greeted::Answered
 }
 
-/// Writes the response that opens a WebSocket, and tells whether it could.
+/// Writes the response that opens a WebSocket, and returns whether it could.
 fn is_opened<W: Write>(alloc: Global, accept: &[u8; 28], writer: &mut W) -> bool {
     let mut head = Vec::new(alloc);
     write_response(accept, &[], &mut head).is_ok() && writer.write_all(head.as_slice()).is_ok()
 }
 
-/// Ends the output, and reads what still comes, so that what was sent isn't lost; for a second at most.
+/// Ends the output, and reads what still comes, for at most `time`. So no response is lost by input that wasn't read.
 ///
 /// Cost: up to 256 reads.
-pub fn drain<C: Clock>(clock: &C, stream: &TcpStream) {
+pub fn drain<C: Clock>(clock: &C, stream: &TcpStream, time: Duration) {
     let _ = stream.shutdown(Shutdown::Write);
-    let Some(mut reader) = until(clock, stream, 1) else {
+    let Some(mut reader) = until(clock, stream, time) else {
         return;
     };
     let mut piece = [0u8; PIECE_BYTES];

@@ -1,4 +1,4 @@
-//! What a request's head is answered by.
+//! Decides the answer to the head of a request.
 ghost use Rattle.std.specs.Prelude.{◌≡◌, ◌++◌, ℕ, All, IfSome, List, OnOk, length, take};
 ghost use Rattle.std.specs.Char.{is_ascii_digit};
 ghost use Rattle.std.specs.List.{list_all};
@@ -9,6 +9,7 @@ ghost use Rattle.websocket.specs.Headers.{eq_ignore_case, fields_of};
 ghost use Rattle.websocket.specs.Handshake.{requested_key};
 ghost use Rattle.ps_page.specs.Heads.{AnswersReader, Opens, AnswersBytes, AnswersHead, has_name, is_named};
 ghost use Rattle.ps_page.specs.Heads.{follows, is_own_host, is_own_origin, is_port, only_value};
+ghost use Rattle.ps_page.specs.declared.head.Answer.TheVariants as Answer;
 
 use httparse::Status;
 use httparse::spans::{EMPTY_HEADER_SPAN, HeaderSpan, RequestSpans, parse_request};
@@ -16,42 +17,46 @@ use std::alloc::Global;
 use std::io::{ErrorKind, Read};
 use websocket::handshake::server::check_request;
 
-/// How many fields a head may have.
+/// The greatest number of fields of a head.
 pub const MOST_FIELDS: usize = 64;
 
 /// Why a request is refused.
 #[derive(Clone, Copy, Debug, PartialEq, Eq)]
 pub enum Refused {
-    /// 400: it is no request of HTTP/1, or no upgrade where one is asked for.
+    /// 400: no request of HTTP/1, or no upgrade at the path of a WebSocket.
     BadRequest,
-    /// 403: its host or its origin is another one.
+    /// 403: the `Host` or the `Origin` is not this server's.
     Forbidden,
-    /// 404: there is nothing at its path.
+    /// 404: nothing is at this path.
     NotFound,
-    /// 405: its method isn't GET.
+    /// 405: the method isn't GET.
     NotAllowed,
-    /// 408: it didn't come in time.
+    /// 408: the head didn't come in time.
     TooLate,
-    /// 431: its head is too long.
+    /// 431: the head is too long.
     TooLarge,
+    /// 503: as many as may be are served so already.
+    Unavailable,
 }
 
-/// What a request is answered by.
+/// The answer to a request.
 #[derive(Clone, Copy, Debug, PartialEq, Eq)]
 pub enum Answer {
     /// The head isn't whole yet.
     More,
     /// The page.
     Page,
-    /// What there is to say of the sheet: how many are here, and its title.
+    /// The facts about the sheet: how many are here, and its title.
     About,
-    /// A WebSocket, with the value of `Sec-WebSocket-Accept`.
+    /// A WebSocket for a session, with the value of `Sec-WebSocket-Accept`.
     Live([u8; 28]),
+    /// A WebSocket that reports changes, with the same value.
+    News([u8; 28]),
     /// A refusal.
     Refuse(Refused),
 }
 
-/// What these bytes are answered by.
+/// Returns the answer to these bytes.
 ///
 /// Cost: linear in the bytes.
 pub fn answer_to(buf: &[u8]) -> Answer
@@ -67,7 +72,7 @@ pub fn answer_to(buf: &[u8]) -> Answer
     }
 }
 
-/// What a whole head is answered by.
+/// Returns the answer to a whole head.
 fn answer_head(buf: &[u8], request: &RequestSpans, spans: &[HeaderSpan]) -> Answer
     requires within { IsRequestWithin buf.now spans.now request.now }
     ensures { AnswersHead (span_bytes buf.now request.now.method) request.now.version
@@ -89,19 +94,24 @@ fn answer_head(buf: &[u8], request: &RequestSpans, spans: &[HeaderSpan]) -> Answ
     if path == b"/about".as_slice() {
         return Answer::About;
     }
-    if path != b"/live".as_slice() {
+    let is_news = path == b"/news".as_slice();
+    if path != b"/live".as_slice() && !is_news {
         return Answer::Refuse(Refused::NotFound);
     }
     if !is_own_origin(only_value(buf, fields, b"Origin"), host) {
         return Answer::Refuse(Refused::Forbidden);
     }
-    open(buf, request, spans)
+    if is_news {
+        open_news(buf, request, spans)
+    } else {
+        open_live(buf, request, spans)
+    }
 }
 
-/// What a head at the path of the WebSocket is answered by.
-fn open(buf: &[u8], request: &RequestSpans, spans: &[HeaderSpan]) -> Answer
+/// Returns the answer to a head at the path of a session.
+fn open_live(buf: &[u8], request: &RequestSpans, spans: &[HeaderSpan]) -> Answer
     requires within { IsRequestWithin buf.now spans.now request.now }
-    ensures { Opens (requested_key (span_bytes buf.now request.now.method)
+    ensures { Opens Answer.Live (requested_key (span_bytes buf.now request.now.method)
         request.now.version (fields_of buf.now (take request.now.headers spans.now))) result }
 {
     match check_request(buf, request, spans) {
@@ -110,7 +120,19 @@ fn open(buf: &[u8], request: &RequestSpans, spans: &[HeaderSpan]) -> Answer
     }
 }
 
-/// The value of the field with a name, where there is one such field and no second.
+/// Returns the answer to a head at the path of the news.
+fn open_news(buf: &[u8], request: &RequestSpans, spans: &[HeaderSpan]) -> Answer
+    requires within { IsRequestWithin buf.now spans.now request.now }
+    ensures { Opens Answer.News (requested_key (span_bytes buf.now request.now.method)
+        request.now.version (fields_of buf.now (take request.now.headers spans.now))) result }
+{
+    match check_request(buf, request, spans) {
+        Ok(accept) => Answer::News(accept),
+        Err(_) => Answer::Refuse(Refused::BadRequest),
+    }
+}
+
+/// Returns the value of the field with a name, if there is exactly one such field.
 fn only_value<'b>(buf: &'b [u8], spans: &[HeaderSpan], name: &[u8]) -> Option<&'b [u8]>
     requires { All (IsHeaderWithin (length buf.now)) spans.now }
     ensures { option_map (λ v. v.now) result ≡ only_value (fields_of buf.now spans.now) name.now }
@@ -129,14 +151,14 @@ fn only_value<'b>(buf: &'b [u8], spans: &[HeaderSpan], name: &[u8]) -> Option<&'
     }
 }
 
-/// Whether two names are equal but for the case of letters.
+/// Returns whether two names are equal apart from the case of letters.
 fn is_same_name(a: &[u8], b: &[u8]) -> bool
     ensures { result ≡ eq_ignore_case a.now b.now }
 {
     a.eq_ignore_ascii_case(b)
 }
 
-/// Whether a field has the name.
+/// Returns whether a field has the name.
 fn has_name(buf: &[u8], spans: &[HeaderSpan], name: &[u8]) -> bool
     requires { All (IsHeaderWithin (length buf.now)) spans.now }
     ensures { result ≡ has_name (fields_of buf.now spans.now) name.now }
@@ -149,7 +171,7 @@ fn has_name(buf: &[u8], spans: &[HeaderSpan], name: &[u8]) -> bool
     false
 }
 
-/// Whether the value is a name of this machine, with any port.
+/// Returns whether the value is a name of this machine, with any port.
 fn is_own_host(value: Option<&[u8]>) -> bool
     ensures { result ≡ is_own_host (option_map (λ v. v.now) value.entry) }
 {
@@ -161,7 +183,7 @@ fn is_own_host(value: Option<&[u8]>) -> bool
     }
 }
 
-/// Whether the origin is that of the page at this host.
+/// Returns whether the origin is that of the page at this host.
 fn is_own_origin(origin: Option<&[u8]>, host: Option<&[u8]>) -> bool
     ensures { result ≡ is_own_origin (option_map (λ v. v.now) origin.entry) (option_map (λ v. v.now) host.entry) }
 {
@@ -171,7 +193,7 @@ fn is_own_origin(origin: Option<&[u8]>, host: Option<&[u8]>) -> bool
     }
 }
 
-/// Whether the text is these two, one after the other.
+/// Returns whether the text is these two, one after the other.
 fn follows(text: &[u8], first: &[u8], second: &[u8]) -> bool
     ensures { result ≡ follows text.now first.now second.now }
 {
@@ -182,7 +204,7 @@ fn follows(text: &[u8], first: &[u8], second: &[u8]) -> bool
     front == first && rest == second
 }
 
-/// Whether the text is this name, and then a port or nothing.
+/// Returns whether the text is this name, and then a port or nothing.
 fn is_named(text: &[u8], name: &[u8]) -> bool
     ensures { result ≡ is_named text.now name.now }
 {
@@ -193,7 +215,7 @@ fn is_named(text: &[u8], name: &[u8]) -> bool
     first == name && is_port(second)
 }
 
-/// Whether the text is what may follow a name: a colon and digits, or nothing, which means the port of HTTP.
+/// Returns whether the text may follow a name: a colon and digits, or nothing, which means the port of HTTP.
 fn is_port(text: &[u8]) -> bool
     ensures { result ≡ is_port text.now }
 {
@@ -203,7 +225,7 @@ fn is_port(text: &[u8]) -> bool
     }
 }
 
-/// Whether each byte is a decimal digit.
+/// Returns whether each byte is a decimal digit.
 fn are_digits(text: &[u8]) -> bool
     ensures { result ≡ list_all is_ascii_digit text.now }
 {
@@ -213,15 +235,16 @@ fn are_digits(text: &[u8]) -> bool
 /// The greatest number of bytes of a head.
 pub const HEAD_LIMIT: usize = 8192;
 
-/// Reads the head of a request, and tells what it is answered by, which isn't `More`; none where the reader fails or
-/// ends before.
+/// Reads the head of a request, and returns the answer to it, which isn't `More`.
+///
+/// Returns none if the reader fails or ends before, or when out of memory.
 ///
 /// Cost: a parse of the head for each read.
 pub fn read_head<S: Read>(alloc: Global, reader: &mut S) -> Option<Answer>
     ensures { IfSome result (AnswersReader (S.remaining reader.old) (S.remaining reader.new)) }
 {
     let mut head = Vec::new(alloc);
-    // (each piece has a byte at least, so one more would be too long)
+    // each piece has a byte at least, so one more would be too long
     for _ in 0..=HEAD_LIMIT {
         match read_piece(reader, &mut head) {
             Ok(()) => {}
@@ -242,7 +265,7 @@ pub fn read_head<S: Read>(alloc: Global, reader: &mut S) -> Option<Answer>
 /// Why no more of a head could be read.
 #[derive(Clone, Copy, Debug, PartialEq, Eq)]
 enum Unread {
-    /// The reader ended or failed, or there is no memory.
+    /// The reader ended or failed, or there was no memory.
     Gone,
     /// The time is over.
     Late,

@@ -1,4 +1,4 @@
-//! The responses that are no WebSocket.
+//! The responses that open no WebSocket.
 ghost use Rattle.std.specs.Prelude.{◌≡◌, ◌++◌, IfOk, OnOk};
 ghost use Rattle.std.specs.Io.KnownBytes.{Appends};
 ghost use Rattle.ps_page.specs.Messages.{about_lines, about_text};
@@ -11,7 +11,7 @@ use std::alloc::{AllocError, Global};
 use std::io;
 use std::io::Write;
 
-/// Writes the page.
+/// Writes the response with the page.
 ///
 /// Cost: linear in the bytes of the page.
 pub fn respond_page<W: Write>(writer: &mut W, page: &[u8]) -> io::Result<()>
@@ -22,21 +22,24 @@ pub fn respond_page<W: Write>(writer: &mut W, page: &[u8]) -> io::Result<()>
     writer.flush()
 }
 
-/// The head of the response that says what there is to say of a sheet, up to the length of that.
+/// The head of the response with the facts about a sheet, up to their length.
 pub const ABOUT_HEAD: &[u8] = b"HTTP/1.1 200 OK\r\ncontent-type: text/plain; charset=utf-8\r\n\
     cache-control: no-store\r\nx-content-type-options: nosniff\r\nconnection: close\r\ncontent-length: ";
 
-/// What there is to say of a sheet.
+/// The facts about a sheet that a page asks for.
 #[derive(Clone, Copy, Debug)]
 pub struct About<'a> {
-    /// How many browsers have a session.
+    /// The number of browsers that have a session.
     pub here: u64,
     /// The title, one line.
     pub title: &'a str,
+    /// Whether one more browser can follow the changes.
+    pub has_room: bool,
 }
 
 impl About<'_> {
-    /// Returns it as text: how many are here, and the title, a line each. Refused only when out of memory.
+    /// Returns the facts as text, a line each: how many browsers have a session, and the title. Fails when out of
+    /// memory.
     ///
     /// Cost: linear in the bytes of the title, and their memory.
     pub fn lines(self, alloc: Global) -> Result<Vec<u8>, AllocError>
@@ -52,7 +55,7 @@ impl About<'_> {
     }
 }
 
-/// Writes what there is to say of a sheet.
+/// Writes the response with the facts about a sheet.
 ///
 /// Cost: linear in the bytes of these lines.
 pub fn respond_about<W: Write>(writer: &mut W, lines: &[u8]) -> io::Result<()>
@@ -66,7 +69,7 @@ pub fn respond_about<W: Write>(writer: &mut W, lines: &[u8]) -> io::Result<()>
     writer.flush()
 }
 
-/// The response that refuses a request.
+/// Returns the response that refuses a request.
 fn refusal_text(refused: Refused) -> &'static [u8] {
     match refused {
         Refused::BadRequest =>
@@ -81,12 +84,12 @@ fn refusal_text(refused: Refused) -> &'static [u8] {
             b"HTTP/1.1 408 Request Timeout\r\ncontent-length: 0\r\nconnection: close\r\n\r\n",
         Refused::TooLarge =>
             b"HTTP/1.1 431 Request Header Fields Too Large\r\ncontent-length: 0\r\nconnection: close\r\n\r\n",
+        Refused::Unavailable =>
+            b"HTTP/1.1 503 Service Unavailable\r\ncontent-length: 0\r\nconnection: close\r\n\r\n",
     }
 }
 
 /// Writes the response that refuses a request.
-///
-/// Cost: constant.
 pub fn respond<W: Write>(writer: &mut W, refused: Refused) -> io::Result<()> {
     writer.write_all(refusal_text(refused))?;
     writer.flush()

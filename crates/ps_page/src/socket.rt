@@ -1,4 +1,4 @@
-//! A WebSocket as the source and the sink of a session: each message of the browser is a line, and each release of
+//! A WebSocket as the source and the sink of a session. Each message of the browser is a line, and each release of
 //! replies is a message to it.
 ghost use Rattle.std.specs.Prelude.{◌≡◌, ◌+◌, ◌-◌, ◌==◌, ◌&&◌, ◌≤◌, [], None, OnOk, drop, length, min, not, take};
 ghost use Rattle.std.specs.Prelude.{vec_len};
@@ -21,19 +21,19 @@ use tungstenite::{
     CloseCode, CloseFrame, Message, NoMask, Role, Utf8Bytes, WebSocket, WebSocketConfig,
 };
 
-/// How many bytes are read at once.
-const PIECE_BYTES: usize = 4096;
+/// The most bytes of one read.
+pub(crate) const PIECE_BYTES: usize = 4096;
 
 /// How long a WebSocket may be open before its first message begins, in seconds.
 const FIRST_SECONDS: u64 = 10;
 
-/// How long a browser may be silent from then on, in seconds, where its server doesn't say.
+/// How long a browser may be silent from then on, in seconds, unless its server says otherwise.
 const SILENT_SECONDS: u64 = 300;
 
 /// How long a browser may leave a reply unread, in seconds.
 const UNREAD_SECONDS: u64 = 10;
 
-/// The connection of a WebSocket, which may be silent for longer once something has come.
+/// The connection of a WebSocket. Its browser may be silent for longer once its first bytes were read.
 #[derive(Drop)]
 pub struct BrowserStream<'a> {
     stream: &'a TcpStream,
@@ -43,8 +43,10 @@ pub struct BrowserStream<'a> {
 }
 
 impl<'a> BrowserStream<'a> {
-    /// The connection of a WebSocket that was just opened, and that may be silent for so long; for five minutes where
-    /// nothing is said. It may leave a reply unread for ten seconds.
+    /// Wraps the connection of a WebSocket that was just opened.
+    ///
+    /// The browser may be silent for `idle`, or for five minutes if that is none, and may leave a reply unread for ten
+    /// seconds. Its first message has to begin within ten seconds.
     pub fn new(stream: &'a TcpStream, idle: Option<Duration>) -> BrowserStream<'a> {
         let _ = stream.set_read_timeout(Some(Duration::from_secs(FIRST_SECONDS)));
         let _ = stream.set_write_timeout(Some(Duration::from_secs(UNREAD_SECONDS)));
@@ -80,8 +82,8 @@ impl Write for BrowserStream<'_> {
     }
 }
 
-/// The server's side of a WebSocket over this stream, whose messages have at most so many bytes.
-fn socket_over<S: Read + Write + Drop>(
+/// Returns the server's side of a WebSocket over this stream; a message has at most `limit` bytes.
+pub(crate) fn socket_over<S: Read + Write + Drop>(
     alloc: Global,
     stream: S,
     limit: usize,
@@ -93,8 +95,8 @@ fn socket_over<S: Read + Write + Drop>(
     WebSocket::from_raw_socket(alloc, stream, NoMask, Role::Server, Some(config))
 }
 
-/// Closes a WebSocket, and says why.
-fn close<S: Read + Write + Drop>(
+/// Closes a WebSocket with a reason.
+pub(crate) fn close<S: Read + Write + Drop>(
     socket: &mut WebSocket<S, NoMask>,
     code: CloseCode,
     reason: &'static str,
@@ -103,9 +105,7 @@ fn close<S: Read + Write + Drop>(
     let _ = socket.close(Some(CloseFrame { code, reason }));
 }
 
-/// Tells a browser whose WebSocket was just opened that there is no room for it.
-///
-/// Cost: constant.
+/// Closes a WebSocket that was just opened, and tells its browser that there is no room for it.
 pub fn turn_browser_away(alloc: Global, stream: &TcpStream) {
     let mut socket = socket_over(alloc, BrowserStream::new(stream, None), PIECE_BYTES);
     close(&mut socket, CloseCode::Again, "no room");
@@ -116,31 +116,31 @@ pub fn turn_browser_away(alloc: Global, stream: &TcpStream) {
 pub enum Heard {
     /// One line.
     Line,
-    /// A ping, a pong or a close, which says nothing to a session.
+    /// A ping, a pong or a close, which is nothing to a session.
     Idle,
-    /// What is no line, or there is no memory for it.
+    /// A message that isn't one line, or one that is out of memory.
     NoLine,
-    /// Nothing more: the browser has gone, or its connection failed.
+    /// Nothing more: the browser left, or its connection failed.
     Left,
 }
 
-/// Whether a message is one line, neither empty nor divided.
+/// Returns whether a message is one line, neither empty nor divided.
 fn is_line(line: &[u8]) -> bool
     ensures { result ≡ is_line line.now }
 {
     !line.is_empty() && is_undivided(line)
 }
 
-/// Whether no byte of a line ends one.
+/// Returns whether no byte of a line ends one.
 fn is_undivided(line: &[u8]) -> bool
     ensures { result ≡ list_all (λ b. not (b == line_feed) && not (b == carriage_return)) line.now }
 {
     line.iter().all(|b| *b != b'\n' && *b != b'\r')
 }
 
-/// Reads the next message of a browser. If it is a line, that is put into `bytes`, with a line feed.
+/// Reads the next message of a browser. If it is a line, it is put into `bytes`, with a line feed.
 ///
-/// Cost: linear in the bytes of the message, but for the time that the browser takes.
+/// Cost: linear in the bytes of the message, and the time that the browser takes.
 pub fn hear<S: Read + Write + Drop>(socket: &mut WebSocket<S, NoMask>, bytes: &mut Vec<u8>) -> Heard
     ensures { Hears S.remaining socket.old socket.new bytes.new.items result }
 {
@@ -165,7 +165,7 @@ pub fn hear<S: Read + Write + Drop>(socket: &mut WebSocket<S, NoMask>, bytes: &m
 
 /// Sends text to a browser, as one message.
 ///
-/// Cost: linear in its bytes, with the memory for them, but for the time that the browser takes.
+/// Cost: linear in its bytes, with the memory for them, and the time that the browser takes.
 pub fn say<S: Read + Write + Drop>(
     alloc: Global,
     socket: &mut WebSocket<S, NoMask>,
@@ -189,20 +189,18 @@ pub fn say<S: Read + Write + Drop>(
 #[derive(Drop)]
 pub struct MessageSource<S: Read + Write + Drop, L: Ledger> {
     socket: WebSocket<S, NoMask>,
-    /// how many more messages are read, or pieces given, before the source fails for good
+    /// how many more messages are read, or pieces returned, before the source fails for good
     tries: u64,
     failed: GhostCount<L>,
-    /// the line that was heard last
+    /// the line that was read last
     line: Vec<u8>,
-    /// how many of its bytes were given
+    /// how many of its bytes were returned
     given: usize,
     ghost within: { given ≤ vec_len line },
 }
 
 impl<S: Read + Write + Drop, L: Ledger> MessageSource<S, L> {
-    /// A source over a stream that is a WebSocket by now, whose messages have at most so many bytes.
-    ///
-    /// Cost: constant.
+    /// Creates a source over a stream that is a WebSocket by now; a message has at most `limit` bytes.
     pub fn new(alloc: Global, stream: S, limit: usize, blank: Blank) -> MessageSource<S, L>
         requires { IsBlankOf blank L.name L.parts }
         ensures { ⟦<MessageSource<S, L> as Source>⟧.failures result ≡ 0 }
@@ -216,7 +214,7 @@ impl<S: Read + Write + Drop, L: Ledger> MessageSource<S, L> {
         }
     }
 
-    /// Gives the next bytes of the line, as many as there is room for.
+    /// Copies the next bytes of the line, as many as fit.
     fn give(&mut self, piece: &mut [u8]) -> usize
         ensures count { result ≡ min (vec_len self.old.line - self.old.given) (length piece.old) }
         ensures bytes { take result piece.new ≡ take result (drop self.old.given self.old.line.items) }
@@ -262,7 +260,7 @@ impl<S: Read + Write + Drop, L: Ledger> Source for MessageSource<S, L> {
     }
 }
 
-/// A sink each of whose pieces is a message to a browser. It shows no bytes.
+/// A sink that sends each piece as a message to a browser. It shows no bytes.
 #[derive(Drop)]
 pub struct MessageSink<S: Read + Write + Drop, L: Ledger> {
     alloc: Global,
@@ -271,9 +269,7 @@ pub struct MessageSink<S: Read + Write + Drop, L: Ledger> {
 }
 
 impl<S: Read + Write + Drop, L: Ledger> MessageSink<S, L> {
-    /// A sink over a stream that is a WebSocket by now.
-    ///
-    /// Cost: constant.
+    /// Creates a sink over a stream that is a WebSocket by now.
     pub fn new(alloc: Global, stream: S, blank: Blank) -> MessageSink<S, L>
         requires { IsBlankOf blank L.name L.parts }
         ensures { ⟦<MessageSink<S, L> as Sink>⟧.failures result ≡ 0 }

@@ -1,2 +1,2 @@
-mod ExchangeLemmas
-mod AskingLemmas
+pub mod ExchangeLemmas
+pub mod AskingLemmas

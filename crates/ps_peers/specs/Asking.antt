@@ -38,6 +38,7 @@ lines_after (Some verbs.Entries) first = number_after first (codes "entries ")
 lines_after (Some verbs.Pull) first =
     none_more (starts_with nat_eq first (codes "delta ") || starts_with nat_eq first (codes "end "))
 lines_after (Some verbs.Replica) first = option_map (λ n. 0) (number_after first (codes "replica "))
+lines_after (Some verbs.Wait) first = option_map (λ n. 0) (number_after first (codes "version "))
 lines_after (Some verbs.Set) first = option_map (λ n. 0) (number_after first (codes "ok "))
 lines_after (Some verbs.Add) first = option_map (λ n. 0) (number_after first (codes "ok "))
 lines_after (Some verbs.Sub) first = option_map (λ n. 0) (number_after first (codes "ok "))

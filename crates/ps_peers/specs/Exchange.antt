@@ -1,7 +1,7 @@
--- What one replica hands to another, or to whoever reads on: the peer's replies to one pull after the other, and the
--- lines that they are handed on as.
+-- What one replica hands to another, or to whoever reads on: the peer's replies to one request after the other, and
+-- the lines that they are handed on as.
 use Rattle.std.specs.Prelude.{◌≡◌, ◌⊎◌, ◌<◌, ◌≤◌, ⊤, ℕ, List, [], ◌∷◌, ◌++◌, Option, Some, codes, decimal}
-use Rattle.std.specs.Prelude.{drop, length, string_bytes}
+use Rattle.std.specs.Prelude.{Bool, false, true, drop, length, string_bytes}
 use Rattle.std.specs.Io.KnownBytes.{Appends, Consumes}
 use Rattle.std.specs.List.{All}
 use Rattle.ps_lines.specs.declared.command.TheConstants.{LARGEST_GROUP}
@@ -10,16 +10,24 @@ use Rattle.ps_peers.specs.declared.peer_reply.PeerReply.TheVariants as replies
 use Rattle.ps_peers.specs.declared.peer_pull.Due.{Due}
 use Rattle.ps_peers.specs.declared.peer_pull.Due.TheVariants as dues
 use Rattle.ps_peers.specs.declared.peer_pull.SyncFault.{SyncFault}
-use Rattle.ps_peers.specs.declared.peer_pull.SyncFault.TheVariants.{PeerRefused, Refused}
+use Rattle.ps_peers.specs.declared.peer_pull.SyncFault.TheVariants.{Closed, PeerRefused, Refused}
 use Rattle.ps_lines.specs.Feeding.{HasNoFeed, without_return}
 use Rattle.ps_peers.specs.Peers.{IsClosed, IsReplied, PeerView, PutsSome}
 use Rattle.ps_lines.specs.Streams.{Answering, Run, TakesLine, stream_of}
 use Rattle.ps_lines.specs.PushLine.{push_text}
 use Rattle.ps_lines.specs.Words.{whole_number}
 
--- what asks for the deltas after a version, as many at once as a reply may join
+-- what asks for the deltas after a version, at most so many at once
+abbrev pub pull_most : ℕ → ℕ → List ℕ
+pull_most version most = codes "pull " ++ decimal version ++ (codes " " ++ decimal most) ++ 10 ∷ []
+
+-- .. as many at once as a reply may join
 abbrev pub pull_text : ℕ → List ℕ
-pull_text version = codes "pull " ++ decimal version ++ (codes " " ++ decimal LARGEST_GROUP) ++ 10 ∷ []
+pull_text version = pull_most version LARGEST_GROUP
+
+-- what asks to be told of more changes than these
+abbrev pub wait_text : ℕ → List ℕ
+wait_text version = codes "wait " ++ decimal version ++ 10 ∷ []
 
 -- the reply `delta`, with a version and a delta line
 pub record TellsDelta (reply : List ℕ) (last : ℕ) (delta : List ℕ) : Type 0 where
@@ -27,30 +35,37 @@ pub record TellsDelta (reply : List ℕ) (last : ℕ) (delta : List ℕ) : Type 
   pub is : reply ≡ codes "delta " ++ (digits ++ 32 ∷ delta)
   pub number : whole_number digits ≡ Some last
 
--- the reply `end`, with a version
-pub record TellsEnd (reply : List ℕ) (version : ℕ) : Type 0 where
+-- a reply of this word, with a number
+pub record TellsNumber (word reply : List ℕ) (number : ℕ) : Type 0 where
   pub digits : List ℕ
-  pub is : reply ≡ codes "end " ++ digits
-  pub number : whole_number digits ≡ Some version
+  pub is : reply ≡ word ++ digits
+  pub number_is : whole_number digits ≡ Some number
+
+-- the reply `end`, with a version
+abbrev pub TellsEnd : List ℕ → ℕ → Type 0
+TellsEnd reply version = TellsNumber (codes "end ") reply version
 
 -- the reply `ok`, with a version
-pub record TellsDone (reply : List ℕ) : Type 0 where
-  pub digits : List ℕ
-  pub version : ℕ
-  pub is : reply ≡ codes "ok " ++ digits
-  pub number : whole_number digits ≡ Some version
+abbrev pub TellsDone : List ℕ → Type 0
+TellsDone reply = (version : ℕ) × TellsNumber (codes "ok ") reply version
+
+-- the reply to a wait for more than `version` changes: how many there are
+abbrev pub TellsNews : ℕ → List ℕ → Type 0
+TellsNews version reply = (number : ℕ) × TellsNumber (codes "version ") reply number × (version ≤ number)
 
 -- what a reply tells
 abbrev pub IsTold : List ℕ → PeerReply → Type 0
 IsTold reply replies.Taken = TellsDone reply
 IsTold reply (replies.Delta last delta) = TellsDelta reply last delta.now
 IsTold reply (replies.End version) = TellsEnd reply version
+IsTold reply (replies.Version number) = TellsNumber (codes "version ") reply number
 IsTold reply (replies.Refused text) = text.now ≡ reply
 
 -- a fault that is a peer's own has this line
 abbrev pub IsOwn : SyncFault → List ℕ → Type 0
 IsOwn (PeerRefused text) line = string_bytes text ≡ line
 IsOwn (Refused refusal) line = ⊤
+IsOwn Closed line = ⊤
 
 -- GROUP: a delta line came that is due to a pull after `version`
 abbrev pub IsGroup : ℕ → List ℕ → ℕ → List ℕ → Type 0
@@ -62,10 +77,17 @@ IsDue version reply (dues.Group last start) = IsGroup version reply last (drop s
 IsDue version reply dues.End = TellsEnd reply version
 IsDue version reply dues.Closed = ⊥
 
--- what a pull after `version` came to: a reply that is due, or the peer closed in the place of one
-abbrev pub IsNext : ℕ → PeerView → PeerView → Due → Type 0
-IsNext version old new dues.Closed = IsClosed (pull_text version) old new
-IsNext version old new due = IsReplied (pull_text version) old new × IsDue version (without_return new.line) due
+-- what a pull after `version` of at most so many came to: a reply that is due, or the peer closed in the place of one
+abbrev pub IsNext : ℕ → ℕ → PeerView → PeerView → Due → Type 0
+IsNext version most old new dues.Closed = IsClosed (pull_most version most) old new
+IsNext version most old new due =
+    IsReplied (pull_most version most) old new × IsDue version (without_return new.line) due
+
+-- what a wait for more than `version` changes came to: it ended, or the peer closed in the place of a reply
+abbrev pub IsAwaited : ℕ → PeerView → PeerView → Bool → Type 0
+IsAwaited version old new true =
+    IsReplied (wait_text version) old new × TellsNews version (without_return new.line)
+IsAwaited version old new false = IsClosed (wait_text version) old new
 
 -- what a line that replies to a pull after `version` is handed on as, and the version to ask after next
 abbrev pub HandsOver : Answering ℕ
@@ -73,36 +95,49 @@ HandsOver version line text next =
     ((delta : List ℕ) × IsGroup version (without_return line) next delta × (text ≡ push_text delta))
     ⊎ (TellsEnd (without_return line) version × (text ≡ []) × (next ≡ version))
 
--- .. and the pull that it replies to
-abbrev pub Asks : Answering ℕ
-Asks version line text next =
-    (text ≡ pull_text version) × ((handed : List ℕ) × HandsOver version line handed next)
+-- what a line that replies to a wait is handed on as: nothing
+abbrev pub HandsNothing : Answering ℕ
+HandsNothing version line text next =
+    TellsNews version (without_return line) × (text ≡ []) × (next ≡ version)
+
+-- what a line that replies to a pull, or to a wait where there are `waits`, is handed on as
+abbrev pub HandsOn : Type 0 → Answering ℕ
+HandsOn waits version line text next =
+    HandsOver version line text next ⊎ (waits × HandsNothing version line text next)
+
+-- .. and what it replies to
+abbrev pub Asks : Type 0 → Answering ℕ
+Asks waits version line text next =
+    ((text ≡ pull_text version) × ((handed : List ℕ) × HandsOver version line handed next))
+    ⊎ (waits × (text ≡ wait_text version) × ((handed : List ℕ) × HandsNothing version line handed next))
 
 -- FOLLOWED: the peer replied to one pull after the other, the first after version 0, each further one after the version
--- of the reply before; and what was written is just what the replies are handed on as, in order, each once
-pub record IsFollowed (first last : PeerView) (written contents : Option (List ℕ)) (version : ℕ) : Type 0 where
+-- of the reply before, and where there are `waits` to waits between them; and what was written is just what the replies
+-- are handed on as, in order, each once
+pub record IsFollowed (waits : Type 0) (first last : PeerView) (written contents : Option (List ℕ)) (version : ℕ)
+    : Type 0 where
   pub replies : List (List ℕ)
   pub each : All HasNoFeed replies
   pub read : Consumes first.to_come last.to_come (stream_of replies [])
   pub requests : List ℕ
-  pub asks : Run Asks 0 replies requests version
+  pub asks : Run (Asks waits) 0 replies requests version
   pub asked : Appends first.asked last.asked requests
   pub text : List ℕ
-  pub hands : Run HandsOver 0 replies text version
+  pub hands : Run (HandsOn waits) 0 replies text version
   pub sent : Appends written contents text
 
 -- .. until the peer had no more: its last reply is the end
-pub record IsAll (first last : PeerView) (written contents : Option (List ℕ)) : Type 0 where
+pub record IsAll (waits : Type 0) (first last : PeerView) (written contents : Option (List ℕ)) : Type 0 where
   pub version : ℕ
-  pub followed : IsFollowed first last written contents version
+  pub followed : IsFollowed waits first last written contents version
   pub ended : TellsEnd (without_return last.line) version
 
--- .. until the peer closed: it ended its replies after one of them
-pub record IsUntilClosed (first last : PeerView) (written contents : Option (List ℕ)) : Type 0 where
+-- .. until the peer closed: it ended its replies after one of them, in the place of one more
+pub record IsUntilClosed (waits : Type 0) (first last : PeerView) (written contents : Option (List ℕ)) : Type 0 where
   pub middle : PeerView
   pub version : ℕ
-  pub followed : IsFollowed first middle written contents version
-  pub closed : IsClosed (pull_text version) middle last
+  pub followed : IsFollowed waits first middle written contents version
+  pub closed : IsClosed (pull_text version) middle last ⊎ (waits × IsClosed (wait_text version) middle last)
 
 -- a line that was due was read, and what it is handed on as was cut
 pub record IsCut (middle last : PeerView) (version : ℕ) (before contents : Option (List ℕ)) : Type 0 where
@@ -115,10 +150,10 @@ pub record IsCut (middle last : PeerView) (version : ℕ) (before contents : Opt
 
 -- HALTED: it was followed up to some reply. Of what came then no more than a line was read, and none of it was handed
 -- on, or, where that `failed`, a beginning
-pub record IsHalted (failed : Type 0) (first last : PeerView) (written contents : Option (List ℕ)) : Type 0 where
+pub record IsHalted (waits failed : Type 0) (first last : PeerView) (written contents : Option (List ℕ)) : Type 0 where
   pub middle : PeerView
   pub before : Option (List ℕ)
   pub version : ℕ
-  pub followed : IsFollowed first middle written before version
+  pub followed : IsFollowed waits first middle written before version
   pub taken : TakesLine middle.to_come last.to_come
   pub handed : (before ≡ contents) ⊎ (failed × IsCut middle last version before contents)

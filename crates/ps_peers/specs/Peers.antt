@@ -32,6 +32,13 @@ pub record IsReadOn (old new : PeerView) : Type 0 where
   pub calm : new.failures ≡ old.failures
   pub falls : new.left < old.left
 
+-- PUT: these bytes were put whole, and nothing was read
+pub record IsPut (question : List ℕ) (old new : PeerView) : Type 0 where
+  pub asked : Appends old.asked new.asked question
+  pub unread : new.to_come ≡ old.to_come
+  pub calm : new.failures ≡ old.failures
+  pub left : new.left ≡ old.left
+
 -- CLOSED: these bytes were put whole, and then the input ended, with nothing after the line that was read last
 pub record IsClosed (question : List ℕ) (old new : PeerView) : Type 0 where
   pub asked : Appends old.asked new.asked question

@@ -1,4 +1,4 @@
-//! The lines of an input, asked of a peer, and its replies, written.
+//! The lines of an input, sent to a peer, and its replies, written.
 ghost use Rattle.std.specs.Prelude.{◌≡◌, ◌≢◌, ◌⊎◌, ◌<◌, ◌≤◌, ℕ, List, [], Option, Some, None, Err, IfErr, IfOk, OnErr};
 ghost use Rattle.std.specs.Prelude.{OnOk, length, option_map, nat_eq};
 ghost use Rattle.std.specs.List.{starts_with};
@@ -17,17 +17,21 @@ use crate::peer::Peer;
 use crate::peer_pull::{SyncFault, fault_of, refused};
 use ps_device::{Failed, Sink, Source, hand_on};
 use ps_grid::Refusal;
-use ps_lines::reply_words::{DELTA, END, ENTRIES, ENTRY, ERR, OK, REPLICA, ROWS, SAME, VAL};
+use ps_lines::reply_words::{
+    DELTA, END, ENTRIES, ENTRY, ERR, OK, REPLICA, ROWS, SAME, VAL, VERSION,
+};
 use ps_lines::{
     Incoming, Line, Outcome, Reply, Verb, Watcher, read_whole, send, send_pieces, split_word,
 };
 use std::alloc::{AllocError, Global};
 
-/// What a server says that has no seat for a session, and closes then.
+/// What a server without a free slot replies before it closes.
 const NO_SEAT: &str = "err 21 seat";
 
-/// The number that follows a word at the front of a line; none where another word stands there, or no such number.
-fn number_after(first: &[u8], word: &[u8]) -> Option<u64>
+/// Returns the number after a word at the front of a line; none for another word, or no such number.
+///
+/// Cost: linear in the line's bytes.
+pub fn number_after(first: &[u8], word: &[u8]) -> Option<u64>
     ensures { result ≡ number_after first.now word.now }
 {
     if first.len() < word.len() {
@@ -59,7 +63,7 @@ fn numbered(first: &[u8], word: &[u8]) -> Option<u64>
 }
 
 /// How many lines follow the first line of a reply to a line of this verb; none where it is no such reply.
-fn lines_after(verb: Option<Verb>, first: &[u8]) -> Option<u64>
+pub(crate) fn lines_after(verb: Option<Verb>, first: &[u8]) -> Option<u64>
     ensures { result ≡ lines_after verb first.now }
 {
     match verb {
@@ -70,6 +74,7 @@ fn lines_after(verb: Option<Verb>, first: &[u8]) -> Option<u64>
         Some(Verb::Entries) => number_after(first, ENTRIES),
         Some(Verb::Pull) => none_more(first.starts_with(DELTA) || first.starts_with(END)),
         Some(Verb::Replica) => numbered(first, REPLICA),
+        Some(Verb::Wait) => numbered(first, VERSION),
         Some(Verb::Set | Verb::Add | Verb::Sub | Verb::Choose | Verb::Unchoose | Verb::Push) =>
             numbered(first, OK),
         Some(Verb::Merge) => numbered(first, OK).or(numbered(first, SAME)),
@@ -102,7 +107,7 @@ fn undue(alloc: Global, first: &[u8]) -> SyncFault
     }
 }
 
-/// What became of a line to which a reply begins so, for who looks on.
+/// Returns the outcome of a line whose reply begins so, for the observer.
 fn outcome_of(first: &[u8]) -> Outcome {
     match refusal_of(first) {
         Some(refusal) => Outcome::Refused(refusal),
@@ -193,7 +198,7 @@ fn count_due(alloc: Global, line: &[u8], first: &[u8]) -> Result<u64, SyncFault>
     }
 }
 
-/// Asks a peer a line, and writes the whole reply to it, of which nothing waits then.
+/// Sends a peer a line, and writes the whole reply to it, flushed.
 fn ask_line<S: Source + Drop, K: Sink + Drop, O: Sink, W: Watcher>(
     alloc: Global,
     line: &[u8],
@@ -228,7 +233,7 @@ fn ask_line<S: Source + Drop, K: Sink + Drop, O: Sink, W: Watcher>(
         Err(_) => return Err(SyncFault::Refused(Refusal::Device)),
     }
     let rest = put_rest(count, peer, out);
-    // what came of a reply that breaks off is handed on, too
+    // what came of a reply that breaks off is sent, too
     let flushed = hand_on(out);
     match rest {
         Ok(()) => {}
@@ -240,7 +245,7 @@ fn ask_line<S: Source + Drop, K: Sink + Drop, O: Sink, W: Watcher>(
     }
 }
 
-/// Refuses a line that is too long, of which nothing is sent, as a session does.
+/// Refuses a line that is too long, as a session does. Nothing of it is sent.
 fn refuse_line<O: Sink, W: Watcher>(out: &mut O, watcher: &mut W) -> Result<(), Failed>
     ensures sent { OnOk result (Appends (O.contents out.old) (O.contents out.new) (refusal_text Refusal.Line)) }
     ensures put { PutsSome (O.contents out.old) (O.contents out.new) (refusal_text Refusal.Line) }
@@ -290,17 +295,19 @@ fn answer<S: Source + Drop, K: Sink + Drop, O: Sink, W: Watcher>(
     }
 }
 
-/// Asks a peer each line of an input, to its end, and writes the replies, each whole and handed on before the next line
-/// is read. An empty line isn't asked; one that is too long is refused here as a session does it. A last line needs no
-/// line feed.
+/// Sends a peer each line of an input, to its end, and writes the replies. Each is whole and flushed before the next
+/// line is read. An empty line isn't sent, and one that is too long is refused here, as a session does. A last line
+/// needs no line feed.
 ///
-/// It ends early as `Device` only where the input, the connection or `out` fails, and as `Line` where a reply isn't
-/// due: where it is none to such a line, or the peer closes before its end. A peer that has no seat is a fault of its
-/// own. A refusal that is the reply to a line ends nothing. What was sent stays sent, and what was written stays
-/// written.
+/// A refusal that is the reply to a line ends nothing. What was sent stays sent, and what was written stays written.
 ///
-/// Cost: linear in the bytes of the lines and of the replies, but for the time that the input and the peer take, and
-/// 0.4 MB of memory.
+/// # Errors
+///
+/// - `Device`: the input, the connection or `out` failed.
+/// - `Line`: a reply isn't due to its line, or the peer closed before its end.
+/// - `PeerRefused`: the peer has no free slot.
+///
+/// Cost: linear in the bytes of the lines and of the replies, and 0.4 MB of memory.
 pub fn ask_lines<I: Source + Drop, S: Source + Drop, K: Sink + Drop, O: Sink, W: Watcher>(
     alloc: Global,
     input: I,

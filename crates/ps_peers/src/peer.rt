@@ -1,7 +1,7 @@
 //! A peer that replies to each request by a line, or by several.
 ghost use Rattle.std.specs.Prelude.{◌≡◌, ◌<◌, ◌≤◌, ◌+◌, [], Err, IfOk, OnErr, OnOk, flat_map, length};
 ghost use Rattle.std.specs.Io.KnownBytes.{Appends};
-ghost use Rattle.ps_peers.specs.Peers.{IsClosed, IsReadOn, IsReplied, PutsSome};
+ghost use Rattle.ps_peers.specs.Peers.{IsClosed, IsPut, IsReadOn, IsReplied, PutsSome};
 ghost use Rattle.ps_lines.specs.Streams.{TakesLine};
 ghost use Rattle.ps_lines.specs.Feeding.{without_return};
 
@@ -65,7 +65,7 @@ pub(crate) fn send_whole<K: Sink>(line: &[&[u8]], sink: &mut K) -> Result<(), Fa
 }
 
 impl<S: Source + Drop, K: Sink + Drop> Peer<S, K> {
-    /// A peer over these two, which was asked nothing yet. Refused out of memory.
+    /// Returns a peer over these two that was sent no request yet. Fails only when out of memory.
     ///
     /// Cost: the room of a line and of a piece.
     pub fn new(alloc: Global, source: S, sink: K) -> Result<Peer<S, K>, AllocError>
@@ -80,9 +80,9 @@ impl<S: Source + Drop, K: Sink + Drop> Peer<S, K> {
         })
     }
 
-    /// Sends a request in pieces, and waits for the reply to it, which [`Peer::reply`] lends then.
+    /// Sends a request in pieces, and waits for the reply to it, which [`Peer::reply`] then returns.
     ///
-    /// Cost: linear in the bytes of both, but for the time that the peer takes.
+    /// Cost: linear in the bytes of both, besides the wait for the peer.
     pub fn ask(&mut self, request: &[&[u8]]) -> Result<(), PeerFault>
         ensures replied { OnOk result (IsReplied (flat_map (λ piece. piece.now) request.now) self.old self.new) }
         ensures closed { result ≡ Err PeerFault.Closed
@@ -110,9 +110,31 @@ impl<S: Source + Drop, K: Sink + Drop> Peer<S, K> {
         }
     }
 
-    /// Waits for one more line of the reply that was read last, which [`Peer::reply`] lends then.
+    /// Sends a request in pieces. Its reply is read later, by [`Peer::ask`] of a request that has no reply.
     ///
-    /// Cost: linear in the bytes of the line, but for the time that the peer takes.
+    /// Cost: linear in the bytes.
+    pub fn put(&mut self, request: &[&[u8]]) -> Result<(), PeerFault>
+        ensures put { OnOk result (IsPut (flat_map (λ piece. piece.now) request.now) self.old self.new) }
+        ensures some { PutsSome self.old.asked self.new.asked (flat_map (λ piece. piece.now) request.now) }
+        ensures unread { self.new.to_come ≡ self.old.to_come }
+        ensures failed { result ≡ Err PeerFault.Device → self.old.failures < self.new.failures }
+    {
+        if !self.is_ready {
+            return Err(PeerFault::Line);
+        }
+        self.is_ready = false;
+        match send_whole(request, &mut self.sink) {
+            Ok(()) => {
+                self.is_ready = true;
+                Ok(())
+            }
+            Err(_) => Err(PeerFault::Device),
+        }
+    }
+
+    /// Waits for one more line of the last reply, which [`Peer::reply`] then returns.
+    ///
+    /// Cost: linear in the bytes of the line, besides the wait for the peer.
     pub fn read_more(&mut self) -> Result<(), PeerFault>
         ensures more { OnOk result (IsReadOn self.old self.new) }
         ensures unasked { self.new.asked ≡ self.old.asked }
@@ -133,9 +155,7 @@ impl<S: Source + Drop, K: Sink + Drop> Peer<S, K> {
         }
     }
 
-    /// The line of a reply that was read last, without its line feed, and without a carriage return before that.
-    ///
-    /// Cost: constant.
+    /// Returns the last line of a reply, without its line feed, and without a carriage return before that.
     pub fn reply(&self) -> &[u8]
         ensures { result.now ≡ without_return self.now.line }
     {

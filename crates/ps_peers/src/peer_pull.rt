@@ -1,9 +1,9 @@
-//! One pull of what a peer has: what is asked, and what the reply hands out.
+//! One pull of what a peer has, or one wait for more: the request, and what its reply says.
 ghost use Rattle.std.specs.Prelude.{◌≡◌, ◌≢◌, ◌<◌, ℕ, List, Err, IfErr, IfOk, OnErr, OnOk};
 ghost use Rattle.ps_grid.specs.declared.refusal.Refusal.TheVariants as Refusal;
-ghost use Rattle.ps_peers.specs.Exchange.{IsDue, IsNext, IsOwn, pull_text};
+ghost use Rattle.ps_peers.specs.Exchange.{IsAwaited, IsDue, IsNext, IsOwn, TellsNews, pull_most, wait_text};
 ghost use Rattle.ps_lines.specs.Feeding.{without_return};
-ghost use Rattle.ps_peers.specs.Peers.{IsClosed, IsReplied};
+ghost use Rattle.ps_peers.specs.Peers.{IsClosed, IsPut, IsReplied, PutsSome};
 ghost use Rattle.ps_lines.specs.Streams.{TakesLine};
 ghost use Rattle.ps_peers.specs.declared.peer_pull.SyncFault.TheVariants.{Refused};
 
@@ -12,7 +12,7 @@ use crate::peer_reply::{PeerReply, read_reply};
 use itoa::Buffer;
 use ps_device::{Sink, Source};
 use ps_grid::Refusal;
-use ps_lines::{LARGEST_GROUP, PULL};
+use ps_lines::{PULL, WAIT};
 use std::alloc::{AllocError, Global};
 
 /// What ends an exchange between replicas early.
@@ -23,32 +23,37 @@ pub enum SyncFault {
     Refused(Refusal),
     /// A peer refused a request, with this reply.
     PeerRefused(String),
-}
-
-/// What a pull came to.
-#[derive(Clone, Copy)]
-pub(crate) enum Due {
-    /// Deltas, as one line: the version after them, and where in the reply the line begins.
-    Group(u64, usize),
-    /// That there are no more.
-    End,
-    /// That the peer has closed in the place of a reply.
+    /// A peer closed its connection instead of a reply.
     Closed,
 }
 
-/// The fault of a peer that has no reply.
-pub(crate) fn fault_of(fault: PeerFault) -> SyncFault
+/// The outcome of a pull.
+#[derive(Clone, Copy)]
+pub enum Due {
+    /// Deltas, as one line: the version after them, and where in the reply the line begins.
+    Group(u64, usize),
+    /// There are no more.
+    End,
+    /// The peer closed its connection instead of a reply.
+    Closed,
+}
+
+/// Returns the fault of a peer that sent no reply.
+pub fn fault_of(fault: PeerFault) -> SyncFault
     ensures device { result ≡ Refused Refusal.Device → fault ≡ PeerFault.Device }
     ensures own { (line : List ℕ) → IsOwn result line }
 {
     match fault {
         PeerFault::Device => SyncFault::Refused(Refusal::Device),
-        PeerFault::Closed | PeerFault::Line => SyncFault::Refused(Refusal::Line),
+        PeerFault::Closed => SyncFault::Closed,
+        PeerFault::Line => SyncFault::Refused(Refusal::Line),
     }
 }
 
-/// The fault of a peer that refused a request by this reply.
-pub(crate) fn refused(alloc: Global, reply: &str) -> SyncFault
+/// Returns the fault of a peer that refused a request by this reply, which is copied. Out of memory it is `Refused`.
+///
+/// Cost: linear in the reply's bytes.
+pub fn refused(alloc: Global, reply: &str) -> SyncFault
     ensures device { result ≢ Refused Refusal.Device }
     ensures own { IsOwn result reply.now }
 {
@@ -58,24 +63,69 @@ pub(crate) fn refused(alloc: Global, reply: &str) -> SyncFault
     }
 }
 
-/// Asks a peer for the deltas after a version, as many at once as a reply may join, and waits for its reply.
+/// Asks a peer for the deltas after a version, at most so many, and waits for its reply.
 fn ask_after<S: Source + Drop, K: Sink + Drop>(
     from: &mut Peer<S, K>,
     version: u64,
+    most: u64,
 ) -> Result<(), PeerFault>
-    ensures replied { OnOk result (IsReplied (pull_text version) from.old from.new) }
-    ensures closed { result ≡ Err PeerFault.Closed → IsClosed (pull_text version) from.old from.new }
+    ensures replied { OnOk result (IsReplied (pull_most version most) from.old from.new) }
+    ensures closed { result ≡ Err PeerFault.Closed → IsClosed (pull_most version most) from.old from.new }
+    ensures put { PutsSome from.old.asked from.new.asked (pull_most version most) }
     ensures taken { OnErr result (TakesLine from.old.to_come from.new.to_come) }
     ensures failed { result ≡ Err PeerFault.Device → from.old.failures < from.new.failures }
 {
     let mut after = Buffer::new();
-    let mut most = Buffer::new();
+    let mut group = Buffer::new();
     let request: [&[u8]; 6] = [
         PULL.as_bytes(),
         b" ",
         after.format(version).as_bytes(),
         b" ",
-        most.format(LARGEST_GROUP).as_bytes(),
+        group.format(most).as_bytes(),
+        b"\n",
+    ];
+    from.ask(request.as_slice())
+}
+
+/// Asks a peer to reply once it has more changes than these, and doesn't wait for that reply.
+pub fn put_wait<S: Source + Drop, K: Sink + Drop>(
+    from: &mut Peer<S, K>,
+    version: u64,
+) -> Result<(), SyncFault>
+    ensures put { OnOk result (IsPut (wait_text version) from.old from.new) }
+    ensures some { PutsSome from.old.asked from.new.asked (wait_text version) }
+    ensures unread { from.new.to_come ≡ from.old.to_come }
+    ensures failed { result ≡ Err (Refused Refusal.Device) → from.old.failures < from.new.failures }
+{
+    let mut number = Buffer::new();
+    let request: [&[u8]; 4] = [
+        WAIT.as_bytes(),
+        b" ",
+        number.format(version).as_bytes(),
+        b"\n",
+    ];
+    match from.put(request.as_slice()) {
+        Ok(()) => Ok(()),
+        Err(fault) => Err(fault_of(fault)),
+    }
+}
+
+/// Asks a peer to reply once it has more changes than these, and waits for that reply.
+fn ask_news<S: Source + Drop, K: Sink + Drop>(
+    from: &mut Peer<S, K>,
+    version: u64,
+) -> Result<(), PeerFault>
+    ensures replied { OnOk result (IsReplied (wait_text version) from.old from.new) }
+    ensures closed { result ≡ Err PeerFault.Closed → IsClosed (wait_text version) from.old from.new }
+    ensures taken { OnErr result (TakesLine from.old.to_come from.new.to_come) }
+    ensures failed { result ≡ Err PeerFault.Device → from.old.failures < from.new.failures }
+{
+    let mut number = Buffer::new();
+    let request: [&[u8]; 4] = [
+        WAIT.as_bytes(),
+        b" ",
+        number.format(version).as_bytes(),
         b"\n",
     ];
     from.ask(request.as_slice())
@@ -96,32 +146,77 @@ fn due_reply(alloc: Global, reply: &[u8], version: u64) -> Result<Due, SyncFault
         }
         Some(PeerReply::End(last)) if last == version => Ok(Due::End),
         Some(PeerReply::Refused(text)) => Err(refused(alloc, text)),
-        Some(PeerReply::Delta(..) | PeerReply::End(_) | PeerReply::Taken) | None => {
-            Err(SyncFault::Refused(Refusal::Line))
-        }
+        Some(PeerReply::Delta(..) | PeerReply::End(_) | PeerReply::Version(_) | PeerReply::Taken)
+        | None => Err(SyncFault::Refused(Refusal::Line)),
     }
 }
 
-/// Pulls the deltas after a version, as many at once as a reply may join, and waits for what comes.
+/// Pulls the deltas after a version, at most so many, and waits for the reply.
 ///
-/// Refused as `Device` only where a connection fails, and as `Line` where the reply isn't due: the version after a
-/// delta has to be above the one that was asked for, and that of an `end` just this one. A peer's `err` is a fault of
-/// its own.
+/// The version after a delta has to be above the one of the request, and that of an `end` equal to it.
 ///
-/// Cost: linear in the bytes of what is asked and of the reply, but for the time that the peer takes.
-pub(crate) fn next_due<S: Source + Drop, K: Sink + Drop>(
+/// # Errors
+///
+/// - `Device`: the connection failed.
+/// - `Line`: the reply isn't due.
+/// - `PeerRefused`: the peer replied `err`.
+///
+/// Cost: linear in the bytes of both, besides the wait for the peer.
+pub fn next_due<S: Source + Drop, K: Sink + Drop>(
     alloc: Global,
     from: &mut Peer<S, K>,
     version: u64,
+    most: u64,
 ) -> Result<Due, SyncFault>
-    ensures next { IfOk result (IsNext version from.old from.new) }
+    ensures next { IfOk result (IsNext version most from.old from.new) }
+    ensures put { PutsSome from.old.asked from.new.asked (pull_most version most) }
     ensures taken { TakesLine from.old.to_come from.new.to_come }
     ensures failed { result ≡ Err (Refused Refusal.Device) → from.old.failures < from.new.failures }
     ensures own { IfErr result (λ fault. IsOwn fault (without_return from.new.line)) }
 {
-    match ask_after(from, version) {
+    match ask_after(from, version, most) {
         Ok(()) => due_reply(alloc, from.reply(), version),
         Err(PeerFault::Closed) => Ok(Due::Closed),
+        Err(fault) => Err(fault_of(fault)),
+    }
+}
+
+/// Checks that the reply to a wait for more than `version` changes is due. A peer's `err` is a fault of its own.
+pub fn due_news(alloc: Global, reply: &[u8], version: u64) -> Result<(), SyncFault>
+    ensures due { OnOk result (TellsNews version reply.now) }
+    ensures device { IfErr result (λ fault. fault ≢ Refused Refusal.Device) }
+    ensures own { IfErr result (λ fault. IsOwn fault reply.now) }
+{
+    match read_reply(reply) {
+        Some(PeerReply::Version(number)) if version <= number => Ok(()),
+        Some(PeerReply::Refused(text)) => Err(refused(alloc, text)),
+        Some(PeerReply::Delta(..) | PeerReply::End(_) | PeerReply::Version(_) | PeerReply::Taken)
+        | None => Err(SyncFault::Refused(Refusal::Line)),
+    }
+}
+
+/// Waits until a peer has more than `version` changes, or ends the wait, and returns false where it closed instead.
+///
+/// Refused as `Device` only where a connection fails, and as `Line` where the reply isn't due: its number has to be at
+/// least `version`. A peer's `err` is a fault of its own.
+///
+/// Cost: constant, besides the wait for the peer.
+pub fn await_news<S: Source + Drop, K: Sink + Drop>(
+    alloc: Global,
+    from: &mut Peer<S, K>,
+    version: u64,
+) -> Result<bool, SyncFault>
+    ensures news { IfOk result (IsAwaited version from.old from.new) }
+    ensures taken { TakesLine from.old.to_come from.new.to_come }
+    ensures failed { result ≡ Err (Refused Refusal.Device) → from.old.failures < from.new.failures }
+    ensures own { IfErr result (λ fault. IsOwn fault (without_return from.new.line)) }
+{
+    match ask_news(from, version) {
+        Ok(()) => match due_news(alloc, from.reply(), version) {
+            Ok(()) => Ok(true),
+            Err(fault) => Err(fault),
+        },
+        Err(PeerFault::Closed) => Ok(false),
         Err(fault) => Err(fault_of(fault)),
     }
 }

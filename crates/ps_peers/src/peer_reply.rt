@@ -2,24 +2,26 @@
 ghost use Rattle.std.specs.Prelude.{◌≡◌, ◌++◌, IfSome};
 ghost use Rattle.ps_peers.specs.Exchange.{IsTold};
 
-use ps_lines::reply_words::{DELTA, END, ERR, OK};
+use ps_lines::reply_words::{DELTA, END, ERR, OK, VERSION};
 use ps_lines::{read_whole, split_word};
 
-/// What a peer replied to a `pull` or a `push`.
+/// What a peer replied to a `pull`, a `push` or a `wait`.
 #[derive(Clone, Copy)]
-pub(crate) enum PeerReply<'a> {
+pub enum PeerReply<'a> {
     /// `ok`: the line was taken in.
     Taken,
     /// `delta`: the version after it, and its line.
     Delta(u64, &'a [u8]),
     /// `end`: the peer's version.
     End(u64),
+    /// `version`: the peer's version, too.
+    Version(u64),
     /// `err`, with the whole reply.
     Refused(&'a str),
 }
 
-/// Reads a reply; none where it is no reply to a `pull` or a `push`.
-pub(crate) fn read_reply(line: &[u8]) -> Option<PeerReply<'_>>
+/// Reads a reply; none where it is no reply to a `pull`, a `push` or a `wait`.
+pub fn read_reply(line: &[u8]) -> Option<PeerReply<'_>>
     ensures { IfSome result (IsTold line.now) }
 {
     let text = str::from_utf8(line).ok()?;
@@ -29,6 +31,9 @@ pub(crate) fn read_reply(line: &[u8]) -> Option<PeerReply<'_>>
     }
     if let Some(digits) = after(line, END) {
         return Some(PeerReply::End(read_whole(digits)?));
+    }
+    if let Some(digits) = after(line, VERSION) {
+        return Some(PeerReply::Version(read_whole(digits)?));
     }
     if let Some(digits) = after(line, OK) {
         read_whole(digits)?;

@@ -11,10 +11,10 @@ use crate::peer_pull::{Due, SyncFault, fault_of, next_due, refused};
 use crate::peer_reply::{PeerReply, read_reply};
 use ps_device::{Sink, Source};
 use ps_grid::Refusal;
-use ps_lines::push_pieces;
+use ps_lines::{LARGEST_GROUP, push_pieces};
 use std::alloc::Global;
 
-/// Pushes the line of a delta to a peer, which has to take it in.
+/// Pushes the line of a delta to a peer, which has to accept it.
 fn push<S: Source + Drop, K: Sink + Drop>(
     alloc: Global,
     to: &mut Peer<S, K>,
@@ -32,7 +32,7 @@ fn push<S: Source + Drop, K: Sink + Drop>(
     match read_reply(to.reply()) {
         Some(PeerReply::Taken) => Ok(()),
         Some(PeerReply::Refused(reply)) => Err(refused(alloc, reply)),
-        Some(PeerReply::Delta(..) | PeerReply::End(_)) | None => {
+        Some(PeerReply::Delta(..) | PeerReply::End(_) | PeerReply::Version(_)) | None => {
             Err(SyncFault::Refused(Refusal::Line))
         }
     }
@@ -40,18 +40,23 @@ fn push<S: Source + Drop, K: Sink + Drop>(
 
 /// Pulls all that one peer has, from version 0 on, pushes each line to another, and returns how many lines it pushed.
 ///
-/// Refused as `Device` only where a connection fails, and as `Line` where a peer's reply is no reply to what it was
-/// asked: the version after a delta has to be above what was asked for, and the version of an `end` just that. So it
-/// ends whatever the peers say. A peer's `err` is a fault of its own. What was pushed before stays pushed.
+/// The version after a delta has to be above the one of the pull, and that of an `end` equal to it. So it ends whatever
+/// the peers reply. What was pushed before stays pushed.
 ///
-/// Cost: linear in the bytes of the lines, but for the time that the peers take.
+/// # Errors
+///
+/// - `Device`: a connection failed.
+/// - `Line`: a reply isn't due to its request.
+/// - `PeerRefused`: a peer replied `err`.
+///
+/// Cost: linear in the bytes of the lines, besides the wait for the peers.
 pub fn sync<S: Source + Drop, K: Sink + Drop, T: Source + Drop, M: Sink + Drop>(
     alloc: Global,
     from: &mut Peer<S, K>,
     to: &mut Peer<T, M>,
 ) -> Result<u64, SyncFault>
-    ensures all { OnOk result (IsAll from.old from.new to.old.asked to.new.asked) }
-    ensures halted { OnErr result (IsHalted ⊤ from.old from.new to.old.asked to.new.asked) }
+    ensures all { OnOk result (IsAll ⊥ from.old from.new to.old.asked to.new.asked) }
+    ensures halted { OnErr result (IsHalted ⊥ ⊤ from.old from.new to.old.asked to.new.asked) }
     ensures calm { OnOk result ((from.new.failures ≡ from.old.failures) × (to.new.failures ≡ to.old.failures)) }
     ensures failed { result ≡ Err (Refused Refusal.Device)
         → (from.old.failures < from.new.failures) ⊎ (to.old.failures < to.new.failures) }
@@ -59,7 +64,7 @@ pub fn sync<S: Source + Drop, K: Sink + Drop, T: Source + Drop, M: Sink + Drop>(
     let mut version = 0u64;
     let mut pushed = 0u64;
     'pulls: loop {
-        match next_due(alloc, from, version) {
+        match next_due(alloc, from, version, LARGEST_GROUP) {
             Ok(Due::Group(last, start)) => {
                 match push(alloc, to, &from.reply()[start..]) {
                     Ok(()) => {}

@@ -41,7 +41,7 @@ OutsideKeeps V =
     → IsChange V old new touched before after fault v w
     → (c : ℕ) → (InRegion new touched c → ⊥) → w c ≡ v c
 
--- a cell of the frame that is no work keeps its value, where it can be told whether two values are one
+-- a cell of the frame that is no work keeps its value, if it can be decided whether two values are one
 abbrev pub QuietKeeps : Type 0 → Type 0
 QuietKeeps V =
     ((x y : V) → (x ≡ y) ⊎ (x ≡ y → ⊥))

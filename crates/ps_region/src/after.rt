@@ -14,20 +14,20 @@ pub trait After {
     /// whether a cell has a formula
     ghost formula: { Self → ℕ → Bool };
 
-    /// Whether the formula of `c` refers to `d`; no cell without a formula refers to any.
+    /// Returns whether the formula of `c` refers to `d`; no cell without a formula refers to any.
     fn refers(&self, c: Cell, d: Cell) -> bool
         ensures { result ≡ refers self.now c d };
 
-    /// Whether the cell has a formula.
+    /// Returns whether the cell has a formula.
     fn is_formula(&self, c: Cell) -> bool
         ensures { result ≡ formula self.now c };
 
-    // just cells with a formula refer to cells
+    // only cells with a formula refer to cells
     ghost refers_formula: { (after : Self) (c d : ℕ) → refers after c d ≡ true → formula after c ≡ true };
 
-    // cells of the grid alone are referred to
+    // only cells of the grid are referred to
     ghost refers_below: { (after : Self) (c d : ℕ) → refers after c d ≡ true → d < CELLS };
 
-    // cells of the grid alone refer to cells
+    // only cells of the grid refer to cells
     ghost below: { (after : Self) (c d : ℕ) → refers after c d ≡ true → c < CELLS };
 }

@@ -7,14 +7,14 @@ use crate::after::After;
 use ps_grid::Cell;
 use ps_index::Index;
 
-/// A change, and what is noted of its touched cells.
+/// A change, and what is noted about its touched cells.
 #[derive_where(Clone, Copy)]
 pub(crate) struct MarkedChange<'a, A> {
     /// lists the formulas after the change, and at most those that touched cells had before
     pub index: &'a Index,
     pub after: &'a A,
     pub touched: &'a [Cell],
-    /// the cyclic cells outside the region; it doesn't matter which of the region's are there
+    /// the cyclic cells outside the region; it may have any cells of the region too
     pub outside: &'a [Cell],
     /// for each cell whether it is touched
     pub fresh: &'a [bool],
@@ -22,7 +22,7 @@ pub(crate) struct MarkedChange<'a, A> {
     pub plain: &'a [bool],
 }
 
-/// Whether a cell that is listed refers there after the change: the formula is asked only where the cell is touched.
+/// Whether a listed cell refers there after the change. The formula is asked only if the cell is touched.
 pub(crate) fn still_refers<A: After>(change: &MarkedChange<'_, A>, e: Cell, d: Cell) -> bool
     requires length { length change.now.fresh.now ≡ ALL }
     requires known { slice_index_or change.now.fresh.now e false ≡ false

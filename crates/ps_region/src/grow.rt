@@ -69,8 +69,8 @@ fn enter_one<A: After>(
     }
 }
 
-/// Puts each cell of a walk, which are those that refer to the cell `d`, into the region, and counts its reference if
-/// `d` is a formula cell. Returns what is noted of them.
+/// Puts each cell of a walk into the region, and counts its reference if `d` is a formula cell. The walk has the cells
+/// that refer to the cell `d`. Returns the number that notes them.
 fn enter_each<A: After, W: Iterator<Item = Cell> + Drop>(
     change: &MarkedChange<'_, A>,
     marks: &mut [bool],
@@ -113,8 +113,8 @@ fn enter_each<A: After, W: Iterator<Item = Cell> + Drop>(
     noted
 }
 
-/// Puts each cell that refers to the cell `d` into the region, counts its reference if `d` is a formula cell, and notes
-/// which these are, where they are few. They are walked only where there may be several.
+/// Puts each cell that refers to the cell `d` into the region, and counts its reference if `d` is a formula cell. Notes
+/// which these are, if they are few. They are walked only if there may be several.
 fn enter_dependents<A: After>(
     change: &MarkedChange<'_, A>,
     marks: &mut [bool],
@@ -164,8 +164,8 @@ fn enter_dependents<A: After>(
     }
 }
 
-/// Grows the region from the touched cells, counts for each member its references to formula cells of the region, and
-/// notes for each which cells refer to it, where they are few.
+/// Grows the region from the touched cells, and counts each member's references to formula cells of the region. Notes
+/// for each member which cells refer to it, if they are few.
 pub(crate) fn grow<A: After>(
     change: &MarkedChange<'_, A>,
     marks: &mut [bool],

@@ -1,4 +1,4 @@
-//! Laws of regions and of what an index lists, as functions that do nothing: each is its contract.
+//! Laws of regions and of what an index lists. Each is a function that does nothing, and its contract is the law.
 
 ghost use Rattle.std.specs.Prelude.{◌≡◌, ℕ, ◌<◌, nat_eq};
 ghost use Rattle.std.specs.List.{list_any};
@@ -10,39 +10,30 @@ ghost use Rattle.ps_region.specs.Values.{OutsideKeeps, QuietKeeps};
 
 use ps_index::Index;
 
-/// Where an index stands for some formulas, just those cells are listed for a cell that have one that refers to it.
-///
-/// Cost: none.
+/// States that an index lists for a cell exactly those cells that have a formula which refers to it, among the formulas
+/// that the index stands for.
 pub fn listed_cells_refer(index: &Index)
     ensures { (forms : Puts) → Stands index.now forms → (c d : ℕ) → c < ALL → d < ALL
         → list_any (nat_eq c) (listed index.now d) ≡ refers forms c d }
 {}
 
-/// Where the references before and after a change differ at touched cells alone, both give the same region.
-///
-/// Cost: none.
+/// States that the references before and after a change give the same region, if they differ at touched cells alone.
 pub fn old_and_new_give_one_region()
     ensures { SameRegion }
 {}
 
-/// Outside the region a cell is cyclic after a change just where it was before.
-///
-/// Cost: none.
+/// States that a cell outside the region is cyclic after a change exactly if it was before.
 pub fn cycles_stay_outside()
     ensures { SameCyclicOutside }
 {}
 
-/// Whatever formulas are worth, as long as that depends on the cells that they refer to alone: outside the region each
-/// cell keeps its value.
-///
-/// Cost: none.
+/// States that each cell outside the region keeps its value, whatever formulas are worth, as long as that depends only
+/// on the cells that they refer to.
 pub fn cells_outside_keep_their_values<V>()
     ensures { OutsideKeeps V }
 {}
 
-/// A cell of the frame that isn't touched and refers to no cell whose value changes keeps its value.
-///
-/// Cost: none.
+/// States that a cell of the frame keeps its value if it isn't touched and refers to no cell whose value changes.
 pub fn quiet_cells_keep_their_values<V>()
     ensures { QuietKeeps V }
 {}

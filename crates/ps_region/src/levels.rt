@@ -1,4 +1,4 @@
-//! The levels of a region's formula cells, and those that are left without one.
+//! The levels of a region's formula cells, and the cells that are left without one.
 
 ghost use Rattle.std.specs.Prelude.{◌≡◌, ◌≢◌, ◌-◌, ◌≤◌, ◌<◌, ◌∷◌, ◌++◌, [], length, ℕ, true, false, slice_index};
 ghost use Rattle.std.specs.Prelude.{slice_index_or, slice_set, filter, vec_capacity};
@@ -18,7 +18,7 @@ use crate::noted::{SEVERAL, pair_of};
 use ps_grid::Cell;
 use ps_index::Readers;
 
-/// Whether a member is a formula cell of which no reference is left.
+/// Whether a member is a formula cell with no reference left.
 fn is_ready_cell(plain: &[bool], left: &[u32], c: Cell) -> bool
     requires plain_length { length plain.now ≡ ALL }
     requires left_length { length left.now ≡ ALL }
@@ -52,8 +52,7 @@ pub(crate) fn first_level(
     }
 }
 
-/// Counts one reference of the cell `e` as released. Where it was the last, the cell goes to the queue's end, at
-/// level k.
+/// Counts one reference of the cell `e` as released. If it was the last, the cell goes to the queue's end, at level k.
 fn lower(left: &mut [u32], level: &mut [u32], order: &mut Vec<Cell>, e: Cell, k: u32)
     requires left_length { length left.old ≡ ALL }
     requires level_length { length level.old ≡ ALL }
@@ -102,7 +101,7 @@ fn release_sole<A: After>(
     }
 }
 
-/// Counts the reference of each cell of a walk, which are those that refer to the cell `d`, as released.
+/// Counts the reference of each cell of a walk as released. The walk has the cells that refer to the cell `d`.
 fn release_each<A: After, W: Iterator<Item = Cell> + Drop>(
     change: &MarkedChange<'_, A>,
     left: &mut [u32],
@@ -164,8 +163,8 @@ fn release_pair<A: After>(
     release_sole(change, left, level, order, d, pair.1, k);
 }
 
-/// Counts each reference to the cell `d` as released: by what is noted where few cells refer there, and else by a walk
-/// of the index.
+/// Counts each reference to the cell `d` as released: by what is noted if few cells refer there, or else by a walk of
+/// the index.
 fn release<A: After>(
     change: &MarkedChange<'_, A>,
     sole: &[u32],
@@ -208,7 +207,7 @@ fn release<A: After>(
     }
 }
 
-/// Gives the cells of the queue and those that they release their levels, level after level.
+/// Gives the cells of the queue, and those that they release, their levels, level after level.
 pub(crate) fn assign_levels<A: After>(
     change: &MarkedChange<'_, A>,
     marks: &[bool],
@@ -262,7 +261,7 @@ pub(crate) fn assign_levels<A: After>(
     }
 }
 
-/// Whether a member is a formula cell of which a reference is left.
+/// Whether a member is a formula cell with a reference left.
 fn is_held_cell(plain: &[bool], left: &[u32], c: Cell) -> bool
     requires plain_length { length plain.now ≡ ALL }
     requires left_length { length left.now ≡ ALL }

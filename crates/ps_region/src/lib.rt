@@ -1,26 +1,30 @@
 //! The region of a change: the cells whose values may change, the order in which to evaluate their formulas, and those
 //! of them that reach a cycle.
 //!
-//! It is not the evaluator: it knows no values and no contents. What the formulas refer to it takes from an index and
-//! from whoever implements `After`; what they are worth is the caller's.
+//! It is not the evaluator: it knows no values and no contents. It takes what the formulas refer to from an index and
+//! from an implementation of `After`. What the formulas are worth is the caller's.
 //!
 //! With `=[.A1]` in `B1`, `=[.B1]` in `C1` and `=[.C1]+[.B1]` in `D1`, a change of `A1`, which holds a number, has the
 //! region `A1`, `B1`, `C1`, `D1`. Level 1 is `B1`, level 2 `C1`, level 3 `D1`; `A1` is in no level, as it has no
-//! formula. Where `B1` becomes `=[.D1]`, the three refer to one another: there is no level, all three are cyclic, and
+//! formula. If `B1` becomes `=[.D1]`, the three refer to one another: there is no level, all three are cyclic, and
 //! `left` of `D1` is 2.
 //!
-//! The contract to use is that of `Region::mark`: what it finds is told of chains of references alone, by `IsFound` of
-//! `specs/Found.antt`. The members are the cells with a chain of references to a touched cell, each once; level `n` has
-//! the formula cells of the region that reach no cycle and whose longest chain within these has `n` cells, so cells of
-//! one level don't refer to each other; the cyclic cells are the region's formula cells that reach a cycle. The index
-//! may still list what touched cells referred to before the change.
+//! Use the contract of `Region::mark`. `IsFound` of `specs/Found.antt` describes what it finds, by chains of references
+//! alone:
 //!
-//! Cost: `Region::new` takes the room for the tables, 31 bytes for each cell of the grid, and writes none of it; no
-//! other call takes memory. The first mark writes the tables that are read by cell, 15 bytes for each cell of the grid.
-//! A mark costs the cells of the region and two walks of the references to each, or one where few cells refer there.
-//! But for the first, it doesn't pass over the grid. It goes once through the list of cyclic cells that it is lent, and
-//! walks the references to those outside the region. So with many cyclic cells about, a small change costs more than
-//! its region: that is the worst case, and where no cell is cyclic nothing is paid for it.
+//! - The members are the cells with a chain of references to a touched cell, each once.
+//! - Level `n` has formula cells of the region that reach no cycle: those whose longest chain within these has `n`
+//!   cells. So cells of one level don't refer to each other.
+//! - The cyclic cells are the region's formula cells that reach a cycle.
+//!
+//! The index may still list what touched cells referred to before the change.
+//!
+//! Cost: `Region::new` takes the room for the tables, 31 bytes for each cell of the grid, and writes none of it. No
+//! other call takes memory. The first mark writes the tables that are read by cell, 15 bytes for each cell of the grid;
+//! no later mark passes over the grid. A mark costs the cells of the region and two walks of the references to each, or
+//! one walk if few cells refer there. It also goes once through the list of cyclic cells that it gets, and walks the
+//! references to those outside the region. So the worst case is a small change while there are many cyclic cells: it
+//! costs more than its region. If no cell is cyclic, nothing is paid for it.
 #![tactic(auto)]
 
 mod after;

@@ -1,4 +1,4 @@
-//! The members of a region, and what is noted of the touched cells.
+//! The members of a region, and what is noted about the touched cells.
 
 ghost use Rattle.std.specs.Prelude.{◌≡◌, ◌≤◌, [], length, ℕ, true, false, slice_index_or, vec_capacity};
 ghost use Rattle.ps_grid.specs.declared.size.TheConstants.{CELLS as ALL};
@@ -79,7 +79,7 @@ pub(crate) fn has_formula(plain: &[bool], c: Cell) -> bool
     !plain[c.index()]
 }
 
-/// Takes all marks and notes away.
+/// Clears all marks and notes.
 pub(crate) fn clear(
     marks: &mut [bool],
     fresh: &mut [bool],

@@ -1,21 +1,21 @@
-//! What is noted of the cells that refer to a cell, in one number.
+//! Which cells refer to a cell, noted in one number if they are few.
 
 ghost use Rattle.std.specs.Prelude.{◌≡◌, ◌≢◌, ◌+◌, ◌-◌, ◌*◌, ◌/◌, ◌%◌, ◌^◌, ◌<◌, ◌≤◌};
 ghost use Rattle.ps_grid.specs.declared.size.TheConstants.{CELLS as ALL};
 
 use ps_grid::{CELLS, Cell};
 
-/// What is noted of a cell that no cell refers to.
+/// Noted of a cell that no cell refers to.
 pub(crate) const NONE: u32 = CELLS as u32;
 
-/// What is noted of a cell that several cells refer to, which aren't told.
+/// Noted of a cell that several cells refer to, without saying which.
 pub(crate) const SEVERAL: u32 = CELLS as u32 + 1;
 
-/// Two cells are told where the first is among so many: then both fit into what is noted.
+/// Two cells fit into the number if the first is below this one.
 const FIRSTS: u32 = 40_000;
 
-/// What is noted of some cells and one more: the cell where it is the first, the two where it is the second and the
-/// first is among the `FIRSTS`, and else `SEVERAL`.
+/// The number that notes some cells and one more: the cell if it is the first, and both if it is the second and the
+/// first is among the `FIRSTS`. Else it is `SEVERAL`.
 #[inline]
 pub(crate) fn noted_with(noted: u32, e: Cell) -> u32
     ensures first { noted ≡ ALL → result ≡ e }
@@ -37,7 +37,7 @@ pub(crate) fn noted_with(noted: u32, e: Cell) -> u32
     }
 }
 
-/// The two cells of what is noted of two.
+/// The two cells that a number notes.
 #[inline]
 pub(crate) fn pair_of(noted: u32) -> (Cell, Cell)
     requires two { ALL + 1 < noted }

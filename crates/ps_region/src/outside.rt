@@ -19,7 +19,7 @@ use crate::members::has_formula;
 use ps_grid::Cell;
 use ps_index::Readers;
 
-/// Whether a listed cell is of the region and refers to the cell `d`.
+/// Whether a listed cell is in the region and refers to the cell `d`.
 fn is_reference<A: After>(change: &MarkedChange<'_, A>, marks: &[bool], e: Cell, d: Cell) -> bool
     requires fresh_length { length change.now.fresh.now ≡ ALL }
     requires marks_length { length marks.now ≡ ALL }
@@ -29,7 +29,7 @@ fn is_reference<A: After>(change: &MarkedChange<'_, A>, marks: &[bool], e: Cell,
     marks[e.index()] && still_refers(change, e, d)
 }
 
-/// Counts the reference of the cell `e` to the cell `d`, if it is of the region and refers there.
+/// Counts the reference of the cell `e` to the cell `d`, if `e` is in the region and refers there.
 fn count_one<A: After>(
     change: &MarkedChange<'_, A>,
     marks: &[bool],
@@ -80,8 +80,8 @@ fn count_each<A: After, W: Iterator<Item = Cell> + Drop>(
     }
 }
 
-/// Counts the references of the region's cells to the cell `d`. The cells that refer there are walked only where there
-/// may be several.
+/// Counts the references of the region's cells to the cell `d`. The cells that refer there are walked only if there may
+/// be several.
 fn count_references<A: After>(
     change: &MarkedChange<'_, A>,
     marks: &[bool],
@@ -149,8 +149,8 @@ fn may_refer_outside<A>(change: &MarkedChange<'_, A>, members: &[Cell]) -> bool
     !change.outside.is_empty() && has_formulas(change.plain, members)
 }
 
-/// Counts for each cell of the region its references to the cyclic cells outside. These are gone through only where a
-/// member has a formula: mostly a number is set, in a cell that no formula refers to, and there is nothing to count.
+/// Counts for each cell of the region its references to the cyclic cells outside. These are walked only if a member has
+/// a formula: mostly a number is set in a cell that no formula refers to, and there is nothing to count.
 pub(crate) fn count_outside<A: After>(
     change: &MarkedChange<'_, A>,
     marks: &[bool],

@@ -33,7 +33,7 @@ pub struct Region {
     left: Vec<u32>,
     // for each cell of a level its number
     level: Vec<u32>,
-    // for each member what is noted of the cells that refer to it: which these are, where they are few
+    // for each member the number that notes which cells refer to it, if they are few
     sole: Vec<u32>,
     // the cells of the region, each once
     members: Vec<Cell>,
@@ -58,11 +58,12 @@ impl Model for Region {
 }
 
 impl Region {
-    /// A region without cells, levels or cyclic cells, with room for the whole grid; no other call takes memory.
+    /// Returns a region without cells, levels or cyclic cells, with room for the whole grid. No other call takes
+    /// memory.
     ///
-    /// Refused only when out of memory.
+    /// Fails only when out of memory.
     ///
-    /// Cost: ten allocations of 3.3 MB together, of which nothing is written yet.
+    /// Cost: ten allocations, 3.3 MB together; nothing is written yet.
     pub fn new(alloc: Global) -> Result<Region, Refusal>
         ensures empty { IfOk result (λ r. r.members ≡ []) }
         ensures no_level { IfOk result (λ r. level_count r ≡ 0) }
@@ -93,14 +94,13 @@ impl Region {
         })
     }
 
-    /// Finds the region of a change, the levels of its formula cells and the cyclic ones.
+    /// Finds the region of a change, the levels of its formula cells and the cyclic ones. It takes no memory.
     ///
     /// `index` lists the formulas after the change, and at most those that touched cells had before. `cyclic` has the
-    /// cells that are cyclic after the change, but for the region's: there it doesn't matter which it has.
+    /// cells outside the region that are cyclic after the change, and may have any cells of the region.
     ///
-    /// Cost: the cells of the region and the references to them, and where one of them has a formula, for each cell of
-    /// `cyclic` outside the region the references to it; the first mark also writes six tables of the grid's size. It
-    /// takes no memory.
+    /// Cost: the cells of the region and the references to them. If one of them has a formula, also the references to
+    /// each cell of `cyclic` outside the region. The first mark also writes six tables of the grid's size.
     pub fn mark<A: After>(&mut self, index: &Index, after: &A, touched: &[Cell], cyclic: &[Cell])
         requires lists_all { (c d : ℕ) → A.refers after.now c d ≡ true → In (listed index.now d) c }
         requires extra { (c d : ℕ) → d < ALL → In (listed index.now d) c
@@ -147,9 +147,7 @@ impl Region {
         list_held(plain, left, members, &mut self.cyclic);
     }
 
-    /// Whether the cell is of the region.
-    ///
-    /// Cost: constant.
+    /// Returns whether the cell is in the region.
     pub fn contains(&self, c: Cell) -> bool
         ensures { result ≡ list_any (nat_eq c) self.now.members }
     {
@@ -157,28 +155,22 @@ impl Region {
         place < self.marks.len() && self.marks[place]
     }
 
-    /// The cells of the region, each once, in no order that is promised.
-    ///
-    /// Cost: constant.
+    /// Returns the cells of the region, each once, in no order that is promised.
     pub fn members(&self) -> &[Cell]
         ensures { result.now ≡ self.now.members }
     {
         &self.members
     }
 
-    /// How many levels there are: the greatest depth of a formula cell of the region that reaches no cycle.
-    ///
-    /// Cost: constant.
+    /// Returns how many levels there are: the greatest depth of a formula cell of the region that reaches no cycle.
     pub fn levels(&self) -> usize
         ensures { result ≡ level_count self.now }
     {
         self.starts.len().saturating_sub(1)
     }
 
-    /// The formula cells of the region of depth `n` that reach no cycle, where `n` is a level, 1 to `levels()`; no cell
-    /// for any other number.
-    ///
-    /// Cost: constant.
+    /// Returns the formula cells of the region of depth `n` that reach no cycle. `n` is a level, 1 to `levels()`; for
+    /// any other number there is no cell.
     pub fn level(&self, n: usize) -> &[Cell]
         ensures inside { 0 < n → n ≤ level_count self.now → result.now ≡ level_cells self.now n }
         ensures other { level_count self.now < n → result.now ≡ [] }
@@ -192,30 +184,24 @@ impl Region {
         &self.order[from..to]
     }
 
-    /// The formula cells of the region that reach a cycle, each once.
-    ///
-    /// Cost: constant.
+    /// Returns the formula cells of the region that reach a cycle, each once.
     pub fn cyclic(&self) -> &[Cell]
         ensures { result.now ≡ self.now.cyclic }
     {
         &self.cyclic
     }
 
-    /// Whether the cell is a formula cell of the region.
-    ///
-    /// Cost: constant.
+    /// Returns whether the cell is a formula cell of the region.
     pub fn is_formula(&self, c: Cell) -> bool
         ensures { result ≡ has_left self.now c }
     {
         self.contains(c) && !self.plain[c.index()]
     }
 
-    /// How many of the cells that a formula cell of the region refers to are cyclic; none for any other cell.
+    /// Returns how many cyclic cells a formula cell of the region refers to; none for any other cell.
     ///
-    /// Nothing in the program calls it. It is part of the public interface, and shows what the region keeps: the counts
-    /// by which it is sorted into levels and cycles, as they stand after a mark.
-    ///
-    /// Cost: constant.
+    /// Nothing in the program calls it. It is part of the public interface, and shows the counts by which the region
+    /// sorts cells into levels and cycles, as they stand after a mark.
     pub fn left(&self, c: Cell) -> Option<usize>
         ensures { result ≡ (if has_left self.now c then Some (slice_index self.now.left c) else None) }
     {
@@ -227,7 +213,7 @@ impl Region {
     }
 }
 
-/// Writes a table whole, where no mark did so yet: each cell that it doesn't reach gets this value.
+/// Fills a table that no mark wrote yet: each cell that it doesn't reach gets this value.
 #[inline]
 fn fill<T: Copy>(table: &mut Vec<T>, value: T)
     requires short { length table.old.items ≤ ALL }
@@ -237,7 +223,7 @@ fn fill<T: Copy>(table: &mut Vec<T>, value: T)
     ensures room { ALL ≤ vec_capacity table.new }
 {
     if table.len() < CELLS {
-        // there is room, so it isn't refused
+        // there is room, so it doesn't fail
         let _ = table.resize(CELLS, value);
     }
 }

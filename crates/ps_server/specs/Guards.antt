@@ -1,4 +1,4 @@
--- What comes to a server's port and is no session: what begins with a request of HTTP (RFC 9112).
+-- What begins with a request of HTTP at a server's port, and so is no session (RFC 9112).
 use Rattle.std.specs.Prelude.{◌≡◌, ◌&&◌, ℕ, Bool, true, false, not, List, [], ◌∷◌, ◌++◌, Option, Some, None, codes}
 use Rattle.std.specs.Prelude.{nat_eq, nat_le}
 use Rattle.std.specs.List.{starts_with}
@@ -20,7 +20,7 @@ abbrev pub IsRequest : List ℕ → Type 0
 IsRequest bytes = (line : List ℕ) × (more : List ℕ) × HasNoFeed line × (is_request_line line ≡ true)
     × (bytes ≡ line ++ 10 ∷ more)
 
--- .. of what a reader has still to give, where it tells that
+-- .. of what a reader has still to give, if it shows that
 abbrev pub BeginsRequest : Option (List ℕ) → Type 0
 BeginsRequest None = ⊥
 BeginsRequest (Some bytes) = IsRequest bytes

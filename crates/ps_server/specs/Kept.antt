@@ -4,7 +4,7 @@ use Rattle.ps_delta.specs.Deltas.{Entries}
 use Rattle.ps_keep.specs.Journals.{IsJournal, JournalView}
 use Rattle.ps_kept.specs.Kept.{TellHistory}
 
--- KEEPS: the journal has this history of a replica on the disk, has noted nothing else, and hasn't failed
+-- KEEPS: this history of a replica is durable in the journal, which has noted nothing else and hasn't failed
 pub record KeepsHistory (replica : ℕ) (history : List Entries) (journal : JournalView) : Type 0 where
   pub is_journal : IsJournal journal
   pub told : TellHistory replica journal.lines history

@@ -16,7 +16,7 @@ pub record IsAttended (replica : ℕ) (opening : List Entries) (old new : PassVi
   pub run : Run (SeatLines replica opening) old lines text new
   pub goes_on : GoesOn old new
 
--- so many sessions had a pass, one after another: each began with what the one before it had left
+-- this many sessions had a pass, one after another: each began with what the one before it had left
 abbrev pub Attended : ℕ → List Entries → ℕ → PassView → PassView → Type 0
 Attended replica opening zero old new = new ≡ old
 Attended replica opening (suc n) old new =
@@ -35,17 +35,18 @@ Back replica opening (turns ∷ rest) [] = ⊥
 Back replica opening (turns ∷ rest) (new ∷ news) =
     Attended replica opening turns.begun turns.first new × Back replica opening rest news
 
--- the passes `news` came back from so many sessions in all, each as its own sessions left it
+-- the passes `news` came back from `sessions` sessions in all, each as its own sessions left it
 pub record AreBack (replica : ℕ) (opening : List Entries) (sessions : ℕ) (olds news : List PassView) : Type 0 where
   pub turns : List Turns
   pub firsts : map (λ t. t.first) turns ≡ olds
   pub all : sum_by (λ t. t.begun) turns ≡ sessions
   pub each : Back replica opening turns news
 
--- SERVED: so many sessions shared the sheet `first`, and left the sheet `last`. There were as many seats as were asked
--- for, or as there were sessions, where these were fewer. Each seat began with a pass that had seen nothing, which came
--- back from the lines that the sessions of the seat answered, one session after another. The history begins with what
--- each pass stands for, has grown by just what they appended, and is what one legal list stands for
+-- SERVED: `sessions` sessions shared the sheet `first`, and left the sheet `last`. There were as many slots as were
+-- asked for, or as there were sessions, if these were fewer. Each slot began with a pass that had seen nothing. The
+-- lines that the sessions of the slot answered, one session after another, took that pass to the one that came back.
+-- The history begins with what each pass stands for, has grown by exactly what they appended, and is what one legal
+-- list stands for
 pub record IsServed (seats sessions : ℕ) (first last : SheetView) : Type 0 where
   pub is_sheet : IsSheet last
   pub replica : last.replica ≡ first.replica

@@ -1,4 +1,4 @@
-//! A connection that wants a slot, and how it is told apart from those that don't.
+//! What a connection wants: a slot, the news, or neither.
 
 use crate::guard::{Unadmitted, admit};
 use ps_page::{About, Greeted, greet, turn_browser_away};
@@ -7,13 +7,13 @@ use std::io::{Read, Write};
 use std::net::{Shutdown, TcpStream};
 use std::time::{Clock, Duration};
 
-/// How many pieces of what it sent are read from a connection that gets no slot.
+/// How many pieces are read from a connection that gets no slot.
 const PIECES: usize = 64;
 
 /// What a session's connection carries.
 #[derive(Drop)]
 pub(crate) enum Speech {
-    /// Lines, the first bytes of which were read already.
+    /// Lines; the first bytes were read already.
     Lines(Vec<u8>),
     /// The messages of a WebSocket that was just opened.
     Messages,
@@ -26,16 +26,27 @@ pub(crate) struct Arrival {
     pub(crate) speech: Speech,
 }
 
-impl Arrival {
-    /// Reads the beginning of a connection, and answers it if that is a request of HTTP; none if it wants no slot.
-    pub(crate) fn receive<C: Clock>(
+/// What a connection wants, by its first bytes.
+#[derive(Drop)]
+pub(crate) enum Request {
+    /// A slot.
+    Slot(Arrival),
+    /// The reports of changes, by a WebSocket that was just opened.
+    News(TcpStream),
+    /// Nothing more: it was answered, or its client has left.
+    Nothing,
+}
+
+impl Request {
+    /// Reads the beginning of a connection, and answers it if that is a request of HTTP.
+    pub(crate) fn read<C: Clock>(
         clock: &C,
         alloc: Global,
         idle: Option<Duration>,
         about: About<'_>,
         stream: TcpStream,
-    ) -> Option<Arrival> {
-        // (without it a reply may only come later)
+    ) -> Request {
+        // without it a reply may only come later
         let _ = stream.set_nodelay(true);
         if idle.is_some() {
             let _ = stream.set_read_timeout(idle);
@@ -45,7 +56,7 @@ impl Arrival {
         let mut reader = &stream;
         let speech = match admit(&mut reader, &mut front) {
             Ok(()) => Speech::Lines(front),
-            Err(Unadmitted::Failed) => return None,
+            Err(Unadmitted::Failed) => return Request::Nothing,
             Err(Unadmitted::Request) => match greet(
                 clock,
                 alloc,
@@ -54,18 +65,21 @@ impl Arrival {
                 about,
             ) {
                 Greeted::Live => Speech::Messages,
-                Greeted::Answered => return None,
+                Greeted::News => return Request::News(stream),
+                Greeted::Answered => return Request::Nothing,
             },
         };
-        Some(Arrival { stream, speech })
+        Request::Slot(Arrival { stream, speech })
     }
+}
 
-    /// Whether it is a browser's.
+impl Arrival {
+    /// Returns whether it is a browser's.
     pub(crate) fn is_browser(&self) -> bool {
         matches!(self.speech, Speech::Messages)
     }
 
-    /// Tells it that there is no slot for it, and closes it.
+    /// Tells its client that there is no slot, and closes it.
     pub(crate) fn turn_away(self, alloc: Global, no_seat: &[u8]) {
         let Arrival { stream, speech } = self;
         match speech {
@@ -83,7 +97,7 @@ pub(crate) fn turn_away(mut stream: TcpStream, last: &[u8]) {
     let _ = stream.set_nonblocking(true);
     let _ = stream.write(last);
     let _ = stream.shutdown(Shutdown::Write);
-    // (a connection with bytes that were never read would be reset, and its peer could miss what it was sent)
+    // a connection with bytes that were never read would be reset, and its peer could miss what it was sent
     let mut piece = [0u8; 4096];
     for _ in 0..PIECES {
         match stream.read(&mut piece) {

@@ -12,8 +12,9 @@ use crate::arrival::{Arrival, Speech};
 use crate::connection::{Attended, DeskSeat, KeptSeat, attend_kept, attend_lines};
 use crate::counts::Counts;
 use crate::guard::resume;
+use crate::line_stream::LineStream;
 use crate::shared::SharedState;
-use ps_desk::{DeskName, Pass};
+use ps_desk::{Desk, DeskName, Pass, Presence};
 use ps_device::{PIECE_BYTES, Sink, Source, Writing};
 use ps_eval::Meter;
 use ps_keep::Device;
@@ -28,18 +29,22 @@ use std::sync::ledger::{Blank, Ledger};
 use std::thread::Threads;
 use std::time::{Clock, Duration};
 
-/// For how many bytes of replies a session has room from its beginning: as many as are held back, and a reply that is
-/// no longer.
+/// The room for replies that a session has from its beginning, in bytes: for those that are held back, and for one more
+/// reply that is no longer.
 const ROOM: usize = 2 * PIECE_BYTES;
 
-/// What a session of a server came to, and what it was told is kept, where the sessions have a keeper.
+/// For how many milliseconds a closed browser may go on sending. Its slot stays taken meanwhile.
+const DRAIN: u64 = 100;
+
+/// The end of a server's session; if the sessions have a keeper, all that it was sent is kept.
 pub(crate) type SessionEnd<L> = Attended<L, Option<KeptPlace<L>>>;
 
-/// Answers each line of a connection at a seat of a desk, to the end of its input. Nothing is handed on but what is
-/// shown to all, and where the sessions have a keeper nothing but what is kept as well.
+/// Answers each line of a connection at a seat of a desk, to the end of its input.
 ///
-/// A failure of the connection ends it early, and so does a lack of memory before the first line, which then isn't
-/// read. Where what the session has seen can't be kept it stops all sessions.
+/// It sends only what is shown to all, and, if the sessions have a keeper, only what is kept as well.
+///
+/// A failure of the connection ends the session early. So does a lack of memory before the first line; that line isn't
+/// read. If what the session has seen can't be kept, it stops all sessions.
 pub(crate) fn attend<
     L: DeskName,
     W: Wait + Drop,
@@ -47,16 +52,23 @@ pub(crate) fn attend<
     D: Device + Drop,
 >(
     resources: Resources<'_, R>,
-    at: DeskSeat<'_, L, W>,
+    desk: &Desk<L, W>,
+    pass: Pass<L>,
     shared: &SharedState<L, D>,
     arrival: &Arrival,
     idle: Option<Duration>,
 ) -> SessionEnd<L>
-    ensures attended { IsAttended L.replica L.opening at.entry.pass result.pass }
+    ensures attended { IsAttended L.replica L.opening pass result.pass }
     ensures kept { IsSome shared.now.keeper
         → OnOk result.ended (IsSomeAnd result.covered (λ place. IsPrefix result.pass.list place)) }
 {
     let Arrival { stream, speech } = arrival;
+    let presence = Presence::of(stream);
+    let at = DeskSeat {
+        desk,
+        pass,
+        presence,
+    };
     let counts = Counts::new();
     let end = match speech {
         Speech::Lines(front) => attend_lines_of::<L, W, R, D, Brand, Brand, Brand, Brand>(
@@ -64,7 +76,7 @@ pub(crate) fn attend<
             at,
             shared,
             front.as_slice(),
-            stream,
+            LineStream::new(front.as_slice(), stream, idle),
             counts,
         ),
         Speech::Messages => {
@@ -72,11 +84,11 @@ pub(crate) fn attend<
             let end = attend_browser::<L, W, R, D, Brand, Brand, Brand, Brand>(
                 resources, at, shared, browser, counts,
             );
-            drain(resources.threads, stream);
+            drain(resources.threads, stream, Duration::from_millis(DRAIN));
             end
         }
     };
-    // (the slot's handle to the connection would keep it open)
+    // the slot's handle to the connection would keep it open
     let _ = stream.shutdown(Shutdown::Both);
     end
 }
@@ -88,12 +100,12 @@ struct Browser<'a> {
     idle: Option<Duration>,
 }
 
-/// Answers each line of a connection whose first bytes were read already. These blanks count its failures and its
+/// Answers each line of a connection whose first bytes were read already. `counts` counts its failures and its
 /// evaluations.
 fn attend_lines_of<
     L: DeskName,
     W: Wait + Drop,
-    R: Threads + Wait + Sync,
+    R: Threads + Wait + Clock + Sync,
     D: Device + Drop,
     I: Ledger,
     O: Ledger,
@@ -104,7 +116,7 @@ fn attend_lines_of<
     at: DeskSeat<'_, L, W>,
     shared: &SharedState<L, D>,
     front: &[u8],
-    stream: &TcpStream,
+    stream: LineStream<'_>,
     counts: Counts,
 ) -> SessionEnd<L>
     requires input { IsBlankOf counts.input I.name I.parts }
@@ -115,20 +127,21 @@ fn attend_lines_of<
     ensures kept { IsSome shared.now.keeper
         → OnOk result.ended (IsSomeAnd result.covered (λ place. IsPrefix result.pass.list place)) }
 {
+    let writer = stream.connection();
     let devices = Devices {
-        source: resume::<&TcpStream, I>(front, stream, counts.input),
-        sink: Writing::<&TcpStream, O>::new(stream, counts.output),
+        source: resume::<LineStream<'_>, I>(front, stream, counts.input),
+        sink: Writing::<&TcpStream, O>::new(writer, counts.output),
         held: counts.held,
         evaluations: counts.evaluations,
     };
     attend_over::<L, W, R, D, _, _, N, M>(resources, at, shared, devices)
 }
 
-/// Answers each message of a browser. These blanks count its failures and its evaluations.
+/// Answers each message of a browser. `counts` counts its failures and its evaluations.
 fn attend_browser<
     L: DeskName,
     W: Wait + Drop,
-    R: Threads + Wait + Sync,
+    R: Threads + Wait + Clock + Sync,
     D: Device + Drop,
     I: Ledger,
     O: Ledger,
@@ -162,8 +175,8 @@ fn attend_browser<
     attend_over::<L, W, R, D, _, _, N, M>(resources, at, shared, devices)
 }
 
-/// Where a session's lines come from and where its replies go, and what counts the failures of replies that are held
-/// back and the evaluations.
+/// The source of a session's lines and the sink of its replies, with the blanks for the failures of held-back replies
+/// and for the evaluations.
 #[derive(Drop)]
 struct Devices<S: Source + Drop, K: Sink + Drop> {
     source: S,
@@ -176,7 +189,7 @@ struct Devices<S: Source + Drop, K: Sink + Drop> {
 fn attend_over<
     L: DeskName,
     W: Wait + Drop,
-    R: Threads + Wait + Sync,
+    R: Threads + Wait + Clock + Sync,
     D: Device + Drop,
     S: Source + Drop,
     K: Sink + Drop,
@@ -212,7 +225,7 @@ fn attend_over<
     end
 }
 
-/// The end of a session of which no line was carried out.
+/// The end of a session that carried out no line.
 fn unread<L: DeskName>(pass: Pass<L>, fault: RunFault) -> SessionEnd<L>
     ensures pass { result.pass ≡ pass }
     ensures attended { IsAttended L.replica L.opening pass result.pass }
@@ -225,12 +238,13 @@ fn unread<L: DeskName>(pass: Pass<L>, fault: RunFault) -> SessionEnd<L>
     }
 }
 
-/// Answers each line of a source on an output by a seat at a desk, to the end of the input. Where the sessions have a
-/// keeper, all that this one has seen is kept before any reply is handed on.
+/// Answers each line of a source on an output by a seat at a desk, to the end of the input.
+///
+/// If the sessions have a keeper, all that this one has seen is kept before any reply is sent.
 fn answer<
     L: DeskName,
     W: Wait + Drop,
-    R: Threads + Wait + Sync,
+    R: Threads + Wait + Clock + Sync,
     D: Device + Drop,
     S: Source,
     K: Sink + Drop,

@@ -8,7 +8,7 @@ ghost use Rattle.ps_session.specs.Transcript.{Answered, Stopped, Transcribed};
 ghost use Rattle.ps_desk.specs.Seats.{SeatLines};
 ghost use Rattle.ps_server.specs.Sessions.{IsAttended};
 
-use ps_desk::{Desk, DeskName, Pass, Publisher, Seat, ShownPlace};
+use ps_desk::{Desk, DeskName, Pass, Presence, Publisher, Seat, ShownPlace};
 use ps_device::{Sink, Source};
 use ps_eval::Meter;
 use ps_keep::Device;
@@ -18,15 +18,16 @@ use ps_session::{HeldBack, HeldOutput, Resources, RunFault, converse};
 use std::sync::Wait;
 use std::sync::ledger::Ledger;
 use std::thread::Threads;
+use std::time::Clock;
 
-/// What a session at a desk came to.
+/// The outcome of a session at a desk.
 #[derive(Drop)]
 pub struct Attended<L: DeskName, K> {
     /// The session's pass, as its lines left it.
     pub pass: Pass<L>,
-    /// The token for all that the replies which were sent tell of: it is shown to all, and kept where the desk is kept.
+    /// The token for all that the sent replies report: it is shown to all, and kept if the desk is kept.
     pub covered: K,
-    /// How many lines had a reply, or why it ended before the end of its input.
+    /// The number of lines that had a reply, or why the session ended before the end of its input.
     pub ended: Result<u64, RunFault>,
 }
 
@@ -37,20 +38,23 @@ pub struct DeskSeat<'a, L: DeskName, W: Wait + Drop> {
     pub desk: &'a Desk<L, W>,
     /// The pass of the seat.
     pub pass: Pass<L>,
+    /// The peer of the session.
+    pub presence: Presence<'a>,
 }
 
-/// Answers each line of a source on an output by a seat at a desk, to the end of the input. All that the session has
-/// seen, by whichever session it was made, is shown to all who look before any reply is sent.
+/// Answers each line of a source on an output by a seat at a desk, to the end of the input.
 ///
-/// At any end, also after a fault, there is a state of the seat, between the lines that were carried out, whose list is
-/// a beginning of the one that is shown, and what was sent are replies to the lines up to it (`IsCovered`). What was
-/// read and written is the transcript of a session at the desk, where the two devices show their bytes.
+/// All that the session has seen, made by any session, is shown to all others before any reply is sent.
+///
+/// At any end, also after a fault, `IsCovered` holds: there is a state of the seat, between two of the lines carried
+/// out, whose list is a beginning of the one that is shown. What was sent are replies to the lines up to that state. If
+/// the two devices show their bytes, what was read and written is the transcript of a session at the desk.
 ///
 /// Cost: that of [`converse`].
 pub fn attend_lines<
     L: DeskName,
     W: Wait + Drop,
-    R: Threads + Wait + Sync,
+    R: Threads + Wait + Clock + Sync,
     S: Source,
     K: Sink + Drop,
     N: Ledger,
@@ -93,8 +97,12 @@ pub fn attend_lines<
     ensures source_failed { result.ended ≡ Err RunFault.Source → S.failures source.old < S.failures source.new }
     ensures attended { IsAttended L.replica L.opening at.entry.pass result.pass }
 {
-    let DeskSeat { desk, pass } = at;
-    let mut seat = Seat::new(desk, resources.threads, pass);
+    let DeskSeat {
+        desk,
+        pass,
+        presence,
+    } = at;
+    let mut seat = Seat::new(desk, resources.threads, pass, presence);
     let mut publisher = Publisher::new(&mut seat);
     let ended = converse::<
         R,
@@ -131,18 +139,18 @@ pub struct KeptSeat<'a, L: DeskName, W: Wait + Drop, D: Device + Drop> {
     pub keeper: &'a DeskKeeper<L, D>,
 }
 
-/// Answers each line of a source on an output by a seat at a kept desk, to the end of the input, while a watcher looks
-/// on. All that the session has seen, by whichever session it was made, is shown to all and kept before any reply is
-/// sent.
+/// Answers each line of a source on an output by a seat at a kept desk, to the end of the input, with a watcher.
 ///
-/// At any end, also after a fault, there is a state of the seat, between the lines that were carried out, whose list is
-/// a beginning of the one that is kept, and what was sent are replies to the lines up to it (`IsCovered`).
+/// All that the session has seen, made by any session, is shown to all others and kept before any reply is sent.
+///
+/// At any end, also after a fault, `IsCovered` holds: there is a state of the seat, between two of the lines carried
+/// out, whose list is a beginning of the one that is kept. What was sent are replies to the lines up to that state.
 ///
 /// Cost: that of [`converse`]. It may wait while another session syncs.
 pub fn attend_kept<
     L: DeskName,
     W: Wait + Drop,
-    R: Threads + Wait + Sync,
+    R: Threads + Wait + Clock + Sync,
     S: Source,
     K: Sink + Drop,
     N: Ledger,
@@ -166,10 +174,14 @@ pub fn attend_kept<
     ensures attended { IsAttended L.replica L.opening at.entry.seat.pass result.pass }
 {
     let KeptSeat {
-        seat: DeskSeat { desk, pass },
+        seat: DeskSeat {
+            desk,
+            pass,
+            presence,
+        },
         keeper,
     } = at;
-    let mut seat = Seat::new(desk, resources.threads, pass);
+    let mut seat = Seat::new(desk, resources.threads, pass, presence);
     let mut own = SeatKeeper::new(keeper, desk, resources.threads);
     let ended = converse::<
         R,

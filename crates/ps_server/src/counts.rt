@@ -1,25 +1,23 @@
-//! What counts what the devices of a session do.
+//! Blanks that count what happens in a session.
 ghost use Rattle.std.specs.Prelude.{◌≡◌};
 
 use std::sync::ledger::Blank;
 
-/// What counts the failures of an input and an output, and the evaluations of a session between them.
+/// Blanks that count the failures of a session's devices, and its evaluations.
 #[derive(Drop)]
 pub struct Counts {
-    /// The failures of the input.
+    /// For the failures of the input.
     pub input: Blank,
-    /// Those of the output.
+    /// For the failures of the output.
     pub output: Blank,
-    /// Those of replies that are held back.
+    /// For the failures of replies that are held back.
     pub held: Blank,
-    /// The evaluations.
+    /// For the evaluations.
     pub evaluations: Blank,
 }
 
 impl Counts {
-    /// Blanks that have counted nothing yet, each for one part.
-    ///
-    /// Cost: constant, no memory.
+    /// Creates blanks that have counted nothing yet, each for one part. Takes no memory.
     pub fn new() -> Counts
         ensures input { result.input.parts ≡ 1 }
         ensures output { result.output.parts ≡ 1 }

@@ -1,9 +1,18 @@
-//! The listener of a server, which waits for a connection only where nothing else may happen meanwhile.
+//! The listener of a server. It waits for a connection only if nothing else can happen meanwhile.
 
 use std::io;
 use std::io::ErrorKind;
 use std::net::{TcpListener, TcpStream};
 use std::sync::Wait;
+
+/// The system's error if the program has as many files open as it may have.
+const EMFILE: i32 = 24;
+
+/// The system's error if all programs together have as many files open as they may have.
+const ENFILE: i32 = 23;
+
+/// The system's error if it has no memory.
+const ENOMEM: i32 = 12;
 
 /// A listener.
 #[derive(Drop)]
@@ -22,7 +31,7 @@ impl<'a> Entrance<'a> {
         }
     }
 
-    /// The next connection, if there is one, or once there is one, where it is to wait.
+    /// Returns the next connection. If `waits` is true it waits for one; else it returns none if there is none.
     pub(crate) fn come<R: Wait>(&mut self, rt: &R, waits: bool) -> io::Result<Option<TcpStream>> {
         self.set_waits(waits)?;
         match accept(rt, self.listener) {
@@ -34,7 +43,7 @@ impl<'a> Entrance<'a> {
         }
     }
 
-    /// Whether an `accept` is to wait for a connection.
+    /// Sets whether an `accept` waits for a connection.
     fn set_waits(&mut self, waits: bool) -> io::Result<()> {
         if self.waits != waits {
             self.listener.set_nonblocking(!waits)?;
@@ -49,8 +58,18 @@ impl<'a> Entrance<'a> {
     }
 }
 
-/// The next connection of a listener. A call that was interrupted, or whose client has gone meanwhile, is made again.
-/// Any other failure is returned, also that of a listener that doesn't wait and to which nobody has come.
+/// Returns whether no connection can be accepted for a reason that passes: too many files are open, or there is no
+/// memory.
+pub(crate) fn passes(error: &io::Error) -> bool {
+    match error.raw_os_error() {
+        Some(number) => number == EMFILE || number == ENFILE || number == ENOMEM,
+        None => false,
+    }
+}
+
+/// Accepts the next connection of a listener, again if the call was interrupted or its client has left meanwhile.
+///
+/// Any other failure is returned, also that of a listener that doesn't wait and has no connection.
 fn accept<R: Wait>(rt: &R, listener: &TcpListener) -> io::Result<TcpStream> {
     for _ in rt.forever() {
         match listener.accept() {

@@ -1,4 +1,4 @@
-//! What tells sessions and requests of HTTP apart, which any page in a browser can have sent to a server's port.
+//! Tells sessions from requests of HTTP. Any page in a browser can send such a request to a server's port.
 ghost use Rattle.std.specs.Prelude.{◌≡◌, ◌≢◌, ◌≤◌, ◌⊎◌, ◌++◌, ◌∷◌, ℕ, List, [], Err, OnOk, Option, Some, false, length};
 ghost use Rattle.std.specs.Prelude.{true};
 ghost use Rattle.std.specs.Io.KnownBytes.{Consumes, Keeps};
@@ -13,22 +13,22 @@ use ps_lines::{split_part, split_word};
 use std::io::{Chain, ErrorKind, Read};
 use std::sync::ledger::{Blank, Ledger};
 
-/// So many bytes of a first line are looked at where it hasn't ended.
+/// The most bytes of a first line that are read if it hasn't ended.
 pub const FRONT_LIMIT: usize = 8_192;
 
-/// So many bytes are read at once.
+/// The most bytes of one read.
 const AT_ONCE: usize = 4_096;
 
-/// Why what comes is no session.
+/// Why a connection is no session.
 #[derive(Clone, Copy, PartialEq, Eq)]
 pub enum Unadmitted {
     /// It begins with a request of HTTP.
     Request,
-    /// It couldn't be read, or there is no memory for its first line.
+    /// It couldn't be read, or its first line is out of memory.
     Failed,
 }
 
-/// Whether bytes begin with a small letter, as each line does that a session carries out.
+/// Returns whether bytes begin with a small letter, as each line does that a session carries out.
 fn begins_small(bytes: &[u8]) -> bool
     ensures { result ≡ begins_small bytes.now }
 {
@@ -38,8 +38,8 @@ fn begins_small(bytes: &[u8]) -> bool
     }
 }
 
-/// Whether a line is the first one of a request of HTTP: it begins with no small letter, and its third word with the
-/// name of the protocol.
+/// Returns whether a line is the first one of a request of HTTP: it doesn't begin with a small letter, and its third
+/// word begins with the name of the protocol.
 fn is_request_line(line: &[u8]) -> bool
     ensures { result ≡ is_request_line line.now }
 {
@@ -51,8 +51,9 @@ fn is_request_line(line: &[u8]) -> bool
     version.unwrap_or(b"").starts_with(b"HTTP/")
 }
 
-/// Whether the front of what comes begins a request; none where more of it has to be known. A first line with no end
-/// within [`FRONT_LIMIT`] bytes is taken for one, for what comes after it can't be waited for.
+/// Returns whether a connection that begins so is a request; none if more bytes have to be read.
+///
+/// A first line without an end within [`FRONT_LIMIT`] bytes counts as a request, as the rest can't be waited for.
 fn judge(front: &[u8]) -> Option<bool>
     ensures small { begins_small front.now ≡ true → result ≡ Some false }
     ensures ended { (line more : List ℕ) → HasNoFeed line → front.now ≡ line ++ 10 ∷ more
@@ -74,17 +75,17 @@ fn judge(front: &[u8]) -> Option<bool>
     None
 }
 
-/// Reads the beginning of what comes, into `front`, until it is known to be a session's, and not a request of HTTP.
+/// Reads the beginning of a connection into `front`, until it is known to be a session's, and not a request of HTTP.
 ///
 /// A first line that begins with a small letter is a session's, and isn't waited for. Any other one is read up to its
-/// end, or up to [`FRONT_LIMIT`] bytes: one that has no end there is taken for a request, too.
+/// end, or up to [`FRONT_LIMIT`] bytes. Without an end there it counts as a request, too.
 ///
 /// # Errors
 ///
-/// `Request` if a request comes, and `Failed` if the reader fails or there is no memory for the first line. What was
-/// read is in `front`, also of a request.
+/// - `Request`: a request comes. What was read of it is in `front`.
+/// - `Failed`: the reader fails, or the first line is out of memory.
 ///
-/// Cost: linear in the bytes of the first line, but for the time that the reader takes.
+/// Cost: linear in the bytes of the first line, and the time that the reader takes.
 pub fn admit<R: Read>(reader: &mut R, front: &mut Vec<u8>) -> Result<(), Unadmitted>
     requires none { front.old.items ≡ [] }
     ensures read { OnOk result (Consumes (R.remaining reader.old) (R.remaining reader.new) front.new.items) }
@@ -114,9 +115,7 @@ pub fn admit<R: Read>(reader: &mut R, front: &mut Vec<u8>) -> Result<(), Unadmit
     Err(Unadmitted::Failed)
 }
 
-/// The source of a session's lines: the bytes that were read already, and then all that comes.
-///
-/// Cost: constant.
+/// Returns the source of a session's lines: the bytes that were read already, and then all that comes.
 pub fn resume<'a, R: Read + Drop, L: Ledger>(
     front: &'a [u8],
     reader: R,

@@ -1,21 +1,27 @@
 //! A server: the sessions of one sheet, each over a connection of its own.
 //!
-//! [`serve_on`] accepts connections. What one says first decides: a request of HTTP is answered by the page, a refusal
-//! or a WebSocket, as `ps_page` says, and anything else is a session of lines. Both kinds of session wait for a free
-//! slot and run in a thread of their own. The server closes the sheet once as many sessions as were asked for have
-//! ended. [`serve_kept_on`] does so on a sheet that a journal keeps. [`attend_lines`] and [`attend_kept`] are one
-//! session, over any source and sink. [`admit`] tells requests from lines, so that nothing of a request reaches a slot.
+//! - [`serve_on`] accepts connections, and closes the sheet once as many sessions as were asked for have ended.
+//!   [`serve_kept_on`] does the same with a sheet that a journal keeps.
+//! - [`attend_lines`] and [`attend_kept`] run one session, over any source and sink.
+//! - [`admit`] tells requests from lines, so that nothing of a request reaches a slot.
 //!
-//! It is not the program: it knows no words of the command line and no exit status, opens no port and no file, and
-//! writes nothing but replies and refusals on connections. What a line means is `ps_session`'s.
+//! The first bytes of a connection decide what it is. A request of HTTP is answered by the page, a refusal or a
+//! WebSocket, as `ps_page` says. Anything else is a session of lines. Both kinds of session wait for a free slot and
+//! run in a thread of their own. A WebSocket for the news takes no slot.
 //!
-//! The contracts to use: [`serve_on`] returns the sheet that it was given, grown by what its seats' passes appended
-//! through all their sessions (`IsServed`). At the end of [`serve_kept_on`] the journal has all of the sheet.
-//! [`attend_lines`] makes what a session reads and writes the transcript of a seat at the desk, and [`attend_kept`]
-//! hands nothing on but what is on the disk, whatever it comes to (`IsCovered`, of `ps_session`).
+//! This crate is not the program: it knows no command line and no exit status, opens no port and no file, and writes
+//! only replies and refusals on connections. `ps_session` decides what a line means.
 //!
-//! Say two sessions of one server answer `set A1 5` with `ok 1` and `set A2 6` with `ok 2`. The sheet that comes back
-//! has these two changes, in this order, and nothing else.
+//! The contracts to use:
+//!
+//! - [`serve_on`] returns the sheet that it was given, with the changes that its slots' passes appended through all
+//!   their sessions (`IsServed`).
+//! - At the end of [`serve_kept_on`] the journal has all of the sheet.
+//! - [`attend_lines`] makes what a session reads and writes the transcript of a seat at the desk.
+//! - [`attend_kept`] sends only what is durable, however the session ends (`IsCovered`, of `ps_session`).
+//!
+//! For example, two sessions of one server answer `set A1 5` with `ok 1` and `set A2 6` with `ok 2`. The sheet that is
+//! returned has these two changes, in this order, and nothing else.
 //!
 //! Cost: that of the sessions.
 #![tactic(auto)]
@@ -26,9 +32,11 @@ mod connection;
 mod counts;
 mod entrance;
 mod guard;
+mod line_stream;
 mod lobby;
 mod marker;
 mod options;
+mod reception;
 mod server;
 mod sessions;
 mod shared;

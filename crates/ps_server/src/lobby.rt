@@ -1,27 +1,25 @@
-//! The connections of a server that have no slot yet: those whose first bytes are awaited, and those that wait for a
-//! slot.
+//! The connections of a server that have no slot yet. Their first bytes are awaited, or they wait for a slot.
 
-use crate::arrival::{Arrival, turn_away};
+use crate::arrival::{Arrival, Request, turn_away};
 use crate::options::ServerOptions;
 use ps_grid::Refusal;
 use ps_page::About;
 use std::alloc::{AllocError, Global};
 use std::net::{Shutdown, TcpStream};
-use std::sync::atomic::{AtomicU64, Ordering};
+use std::sync::atomic::{AtomicBool, AtomicU64, Ordering};
 use std::sync::{Condvar, CondvarTimeouts, Mutex, Wait};
-use std::thread::{Scope, Threads};
 use std::time::{Clock, Duration, Instant};
 
-/// How many connections may wait for a slot at a time.
+/// The most connections that may wait for a slot at a time.
 const MOST: usize = 512;
 
-/// The first bytes of how many connections may be awaited at a time. Each has two files meanwhile.
+/// The most connections whose first bytes may be awaited at a time. Each has two files meanwhile.
 const MOST_UNHEARD: usize = 200;
 
-/// How long a pause is, in milliseconds, in which nothing happens.
-const PAUSE: u64 = 5;
+/// The most browsers that may follow the changes at a time.
+const MOST_FOLLOWERS: u64 = 512;
 
-/// Within how many milliseconds a connection is heard whose bytes have come.
+/// Within how many milliseconds a connection is heard once its bytes are there.
 const SOON: u64 = 50;
 
 /// A connection that waits for a slot.
@@ -35,20 +33,22 @@ struct Waiting {
 #[derive(Drop)]
 struct Unheard {
     number: u64,
-    /// a second handle to the connection, by which it can be closed
+    /// a second handle to the connection, to close it
     handle: TcpStream,
 }
 
-/// Who is in a lobby.
+/// The connections of a lobby.
 #[derive(Drop)]
 struct Present {
     unheard: Vec<Unheard>,
-    /// the first in front
+    /// in the order of their arrival
     waiting: Vec<Waiting>,
     /// the number of the next connection
     next: u64,
     /// whether something happened since the last pause
     has_changed: bool,
+    /// whether no slot is given any more
+    has_no_slots: bool,
     is_closed: bool,
 }
 
@@ -61,22 +61,26 @@ pub(crate) struct Lobby {
     alloc: Global,
     /// how long a connection may wait
     patience: Duration,
-    /// after how long a session ends whose peer sends nothing
+    /// how long the peer of a session may send nothing before the session ends
     idle: Option<Duration>,
-    /// the line that a connection is sent that gets no slot
+    /// the line for a connection that gets no slot
     no_seat: String,
     title: String,
     /// how many browsers have a slot
     browsers: AtomicU64,
+    /// how many browsers follow the changes
+    followers: AtomicU64,
+    /// whether a connection has no thread of its own
+    is_crowded: AtomicBool,
 }
 
 impl Present {
-    /// Whether no more connections may be awaited.
+    /// Returns whether no more connections may be awaited.
     fn is_full(&self) -> bool {
         self.unheard.len() >= self.unheard.capacity()
     }
 
-    /// Takes out the connection that has been silent longest, where no more may be awaited.
+    /// Takes out the connection that has been silent longest, if no more may be awaited.
     fn make_room(&mut self) -> Option<Unheard> {
         if self.is_full() && !self.unheard.is_empty() {
             Some(self.unheard.remove(0))
@@ -87,13 +91,14 @@ impl Present {
 }
 
 impl Lobby {
-    /// A lobby in which nobody is.
+    /// Creates an empty lobby.
     pub(crate) fn new(alloc: Global, options: ServerOptions<'_>) -> Result<Lobby, AllocError> {
         let present = Present {
             unheard: Vec::with_capacity(alloc, MOST_UNHEARD)?,
             waiting: Vec::with_capacity(alloc, MOST)?,
             next: 0,
             has_changed: false,
+            has_no_slots: false,
             is_closed: false,
         };
         Ok(Lobby {
@@ -105,59 +110,69 @@ impl Lobby {
             no_seat: format!(in alloc; "{}\n", Refusal::Seat)?,
             title: options.title.to_string(alloc)?,
             browsers: AtomicU64::new(0),
+            followers: AtomicU64::new(0),
+            is_crowded: AtomicBool::new(false),
         })
     }
 
-    /// After how long a session ends whose peer sends nothing.
+    /// Returns how long the peer of a session may send nothing before the session ends.
     pub(crate) fn idle(&self) -> Option<Duration> {
         self.idle
     }
 
-    /// Lets a connection in. A thread of its own reads its first bytes; where none can be started, they are read here.
-    pub(crate) fn let_in<'s, E, R: Threads + Wait + Clock + Sync>(
-        &'s self,
-        scope: &Scope<'s, E>,
-        rt: &'s R,
-        stream: TcpStream,
-    ) {
-        let Some(number) = self.number(rt, &stream) else {
-            turn_away(stream, self.no_seat.as_bytes());
-            return;
-        };
-        let begun = scope.spawn(move || {
-            if let Some(arrival) = Arrival::receive(
-                rt,
-                self.alloc,
-                self.idle,
-                self.about(),
-                stream,
-            ) {
-                self.enter(rt, arrival);
-            }
-            self.is_heard(rt, number);
-        });
-        match begun {
-            Ok(_) => {}
-            Err(refused) => (refused.value)(),
-        }
+    /// Reads what a connection wants.
+    pub(crate) fn hear<C: Clock>(&self, clock: &C, stream: TcpStream) -> Request {
+        Request::read(clock, self.alloc, self.idle, self.about(), stream)
     }
 
-    /// What there is to say of the sheet.
+    /// Returns the facts about the sheet that a page asks for.
     fn about(&self) -> About<'_> {
+        let followers = self.followers.load(Ordering::SeqCst);
         About {
             here: self.browsers.load(Ordering::SeqCst),
             title: self.title.as_str(),
+            has_room: followers < MOST_FOLLOWERS && !self.is_crowded.load(Ordering::SeqCst),
         }
     }
 
-    /// Takes note that an arrival has a slot.
+    /// Notes whether a connection has no thread of its own. Then no browser may follow the changes: it would hold all
+    /// others up.
+    pub(crate) fn set_crowded(&self, is_crowded: bool) {
+        self.is_crowded.store(is_crowded, Ordering::SeqCst);
+    }
+
+    /// Returns whether one more browser may follow the changes. If so, it is counted.
+    pub(crate) fn follows(&self) -> bool {
+        if self.followers.fetch_add(1, Ordering::SeqCst) < MOST_FOLLOWERS {
+            return true;
+        }
+        self.follows_no_more();
+        false
+    }
+
+    /// Notes that a browser no longer follows the changes.
+    pub(crate) fn follows_no_more(&self) {
+        self.followers.fetch_sub(1, Ordering::SeqCst);
+    }
+
+    /// Returns whether the lobby is closed.
+    pub(crate) fn is_closed<R: Wait>(&self, rt: &R) -> bool {
+        self.present.lock(rt).is_closed
+    }
+
+    /// Tells a client that there is no slot, and closes its connection.
+    pub(crate) fn turn_away(&self, stream: TcpStream) {
+        turn_away(stream, self.no_seat.as_bytes());
+    }
+
+    /// Notes that an arrival has a slot.
     pub(crate) fn has_slot(&self, arrival: &Arrival) {
         if arrival.is_browser() {
             self.browsers.fetch_add(1, Ordering::SeqCst);
         }
     }
 
-    /// Takes note that the session of an arrival is over.
+    /// Notes that the session of an arrival is over.
     pub(crate) fn is_over<R: Wait>(&self, rt: &R, arrival: Arrival) {
         if arrival.is_browser() {
             self.browsers.fetch_sub(1, Ordering::SeqCst);
@@ -166,9 +181,10 @@ impl Lobby {
         self.note(rt);
     }
 
-    /// Notes a connection whose first bytes are awaited; none where it couldn't be closed. Where there are too many, and
-    /// none is heard soon, the one that has been silent longest is turned away.
-    fn number<R: Wait + Clock>(&self, rt: &R, stream: &TcpStream) -> Option<u64> {
+    /// Notes a connection whose first bytes are awaited, and returns its number; none if it couldn't be closed later.
+    ///
+    /// If there are too many, and none is heard soon, the one that was silent for longest is turned away.
+    pub(crate) fn number<R: Wait + Clock>(&self, rt: &R, stream: &TcpStream) -> Option<u64> {
         let handle = stream.try_clone().ok()?;
         let present = self.present.lock(rt);
         let soon = Duration::from_millis(SOON);
@@ -184,13 +200,13 @@ impl Lobby {
         }
         drop(present);
         if let Some(silent) = silent {
-            turn_away(silent.handle, self.no_seat.as_bytes());
+            self.turn_away(silent.handle);
         }
         Some(number)
     }
 
-    /// Takes note that the first bytes of a connection came, or it ended.
-    fn is_heard<R: Wait>(&self, rt: &R, number: u64) {
+    /// Notes that the first bytes of a connection came, or that it ended.
+    pub(crate) fn is_heard<R: Wait>(&self, rt: &R, number: u64) {
         let mut present = self.present.lock(rt);
         present.unheard.retain(|it| it.number != number);
         present.has_changed = true;
@@ -198,12 +214,12 @@ impl Lobby {
         self.changed.notify_one();
     }
 
-    /// Has an arrival wait for a slot, if there is room and more are wanted.
-    fn enter<R: Wait + Clock>(&self, rt: &R, arrival: Arrival) {
+    /// Lets an arrival wait for a slot, if there is room and more are wanted.
+    pub(crate) fn enter<R: Wait + Clock>(&self, rt: &R, arrival: Arrival) {
         let mut present = self.present.lock(rt);
         let has_room = present.waiting.len() < present.waiting.capacity();
         match Instant::now(rt) {
-            Ok(since) if has_room && !present.is_closed => {
+            Ok(since) if has_room && !present.has_no_slots => {
                 present.waiting.push_reserved(Waiting { arrival, since });
             }
             _ => {
@@ -213,35 +229,37 @@ impl Lobby {
         }
     }
 
-    /// Takes note that something happened, so that a pause ends.
+    /// Notes that something happened, so that a pause ends.
     fn note<R: Wait>(&self, rt: &R) {
         self.present.lock(rt).has_changed = true;
         self.changed.notify_one();
     }
 
-    /// Waits until something happens, or for some milliseconds.
-    pub(crate) fn pause<R: Wait + Clock>(&self, rt: &R) {
+    /// Waits until something happens, or for `millis` milliseconds, and returns whether something did.
+    pub(crate) fn pause<R: Wait + Clock>(&self, rt: &R, millis: u64) -> bool {
         let present = self.present.lock(rt);
-        let pause = Duration::from_millis(PAUSE);
+        let pause = Duration::from_millis(millis);
         let while_quiet = |present: &mut Present| -> bool { !present.has_changed };
         let (mut present, _) = self
             .changed
             .wait_timeout_while(rt, present, pause, while_quiet);
+        let has_changed = present.has_changed;
         present.has_changed = false;
+        has_changed
     }
 
-    /// How many connections wait for a slot.
-    pub(crate) fn waiting<R: Wait>(&self, rt: &R) -> usize {
-        self.present.lock(rt).waiting.len()
+    /// Returns whether a connection waits for a slot.
+    pub(crate) fn has_waiting<R: Wait>(&self, rt: &R) -> bool {
+        !self.present.lock(rt).waiting.is_empty()
     }
 
-    /// Whether nobody is in it.
+    /// Returns whether the lobby is empty.
     pub(crate) fn is_empty<R: Wait>(&self, rt: &R) -> bool {
         let present = self.present.lock(rt);
         present.waiting.is_empty() && present.unheard.is_empty()
     }
 
-    /// The arrival that has waited longest.
+    /// Takes out the arrival that has waited longest.
     pub(crate) fn next<R: Wait>(&self, rt: &R) -> Option<Arrival> {
         let mut present = self.present.lock(rt);
         if present.waiting.is_empty() {
@@ -250,7 +268,8 @@ impl Lobby {
         Some(present.waiting.remove(0).arrival)
     }
 
-    /// The arrival that has waited longest, if it had waited too long by this time. Where there is no time, it has.
+    /// Takes out the arrival that has waited longest, if it has waited too long by `now`. Without a time, it counts as
+    /// late.
     fn next_late<R: Wait>(&self, rt: &R, now: Option<Instant>) -> Option<Arrival> {
         let mut present = self.present.lock(rt);
         let since = present.waiting.first()?.since;
@@ -261,7 +280,7 @@ impl Lobby {
         }
     }
 
-    /// Whether who came at this time has waited too long by now. Whoever came later than now hasn't.
+    /// Returns whether an arrival since `since` has waited too long by `now`. An arrival after `now` hasn't.
     fn is_late(&self, since: Instant, now: Option<Instant>) -> bool {
         match now {
             Some(now) => match now.checked_duration_since(since) {
@@ -272,7 +291,7 @@ impl Lobby {
         }
     }
 
-    /// Turns those away that had waited too long by this time.
+    /// Turns away the arrivals that have waited too long by `now`.
     pub(crate) fn turn_away_late<R: Wait>(&self, rt: &R, now: Option<Instant>) {
         for _ in 0..MOST {
             match self.next_late(rt, now) {
@@ -282,7 +301,7 @@ impl Lobby {
         }
     }
 
-    /// Turns all away, also those that come later.
+    /// Closes the lobby: no connection is heard, gets a slot or follows the changes any more.
     pub(crate) fn close<R: Wait>(&self, rt: &R) {
         let mut present = self.present.lock(rt);
         present.is_closed = true;
@@ -290,6 +309,12 @@ impl Lobby {
             let _ = unheard.handle.shutdown(Shutdown::Both);
         }
         drop(present);
+        self.close_slots(rt);
+    }
+
+    /// Turns away the arrivals that wait for a slot, and those that come later.
+    pub(crate) fn close_slots<R: Wait>(&self, rt: &R) {
+        self.present.lock(rt).has_no_slots = true;
         for _ in 0..MOST {
             match self.next(rt) {
                 Some(arrival) => arrival.turn_away(self.alloc, self.no_seat.as_bytes()),

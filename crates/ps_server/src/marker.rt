@@ -1,13 +1,12 @@
-//! What looks on at the sessions of a kept desk.
+//! The watcher of the sessions of a kept desk.
 
 use ps_lines::{Outcome, Watcher};
 use std::sync::atomic::{AtomicBool, Ordering};
 
-/// Looks on at a session of a kept desk, and raises a mark where it is pushed changes of the replica's own that the
-/// sheet hadn't.
+/// A watcher that raises a mark if its session is pushed changes of the own replica that the sheet hadn't.
 #[derive(Clone, Copy)]
 pub(crate) struct Marker<'a> {
-    /// the mark of all its sessions
+    /// the mark of all sessions
     pub(crate) mark: &'a AtomicBool,
 }
 

@@ -1,4 +1,4 @@
-//! What is asked of a server.
+//! The options of a server.
 ghost use Rattle.std.specs.Option.{ForSome};
 ghost use Rattle.std.specs.Prelude.{◌≤◌};
 ghost use Rattle.ps_grid.specs.declared.parties.TheConstants.{SEATS};
@@ -6,20 +6,20 @@ ghost use Rattle.ps_grid.specs.declared.parties.TheConstants.{SEATS};
 use std::net::TcpListener;
 use std::time::Duration;
 
-/// What is asked of a server: where its sessions come from, how many there are, and how long they may take.
+/// The options of a server: where its sessions come from, how many there are, and how long they may take.
 #[derive(Clone, Copy)]
 pub struct ServerOptions<'a> {
-    /// What the sessions connect to.
+    /// The listener that the sessions connect to.
     pub listener: &'a TcpListener,
-    /// How many sessions it serves, 1 or more; none where it serves until it is stopped.
+    /// The number of sessions to serve, 1 or more; none to serve until the program is stopped.
     pub sessions: Option<u64>,
-    /// How many sessions it serves at a time, 1 to `SEATS`.
+    /// The number of sessions at a time, 1 to `SEATS`.
     pub seats: usize,
-    /// The title that the page has by itself, one line.
+    /// The title that the page shows by itself, one line.
     pub title: &'a str,
-    /// How long a connection waits for a slot.
+    /// The time that a connection waits for a slot.
     pub wait: Duration,
-    /// After how long a session ends whose peer sends nothing; never where there is none.
+    /// The time that the peer of a session may send nothing before the session ends; none for no limit.
     pub idle: Option<Duration>,
     ghost sessions_in_range: { ForSome sessions (λ n. 1 ≤ n) },
     ghost seats_in_range: { (1 ≤ seats) × (seats ≤ SEATS) },

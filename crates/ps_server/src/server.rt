@@ -1,4 +1,4 @@
-//! A server: the sessions of a sheet, which is kept in a journal, or isn't.
+//! A server: the sessions of a sheet, with or without a journal.
 ghost use Rattle.std.specs.Prelude.{◌≡◌, ◌+◌, ◌⊎◌, ◌≤◌, IfErr, IfOk, IfSome, IsSome, None, Some, length, min, vec_len};
 ghost use Rattle.ps_grid.specs.declared.parties.TheConstants.{SEATS};
 ghost use Rattle.ps_grid.specs.declared.refusal.Refusal.TheVariants.{Device, Memory, Seat};
@@ -13,7 +13,7 @@ ghost use Rattle.ps_server.specs.Sessions.{IsServed};
 use crate::options::ServerOptions;
 use crate::sessions::serve_all;
 use crate::shared::SharedState;
-use crate::warning::{Unwarned, Warn};
+use crate::warning::Warn;
 use ps_desk::{Desk, DeskName, Parts, Pass};
 use ps_device::Failed;
 use ps_grid::Refusal;
@@ -26,49 +26,54 @@ use std::sync::Wait;
 use std::thread::Threads;
 use std::time::Clock;
 
-/// What a server closed.
+/// A sheet that a server closed.
 #[derive(Drop)]
 pub struct Closed<J = ()> {
     /// The sheet, as its sessions left it.
     pub sheet: Sheet,
-    /// How many sessions shared it.
+    /// The number of sessions that shared it.
     pub sessions: u64,
-    /// The journal, which has all of it on the disk, where it was kept in one.
+    /// The journal, if there was one; all of the sheet is durable in it.
     pub journal: J,
 }
 
-/// Serves sessions on a sheet, each over a connection to this listener, so many at a time, and returns the sheet that
-/// it closed once as many as were asked for have ended. Where no number was asked for it serves until the program is
-/// stopped.
+/// Serves sessions on a sheet, each over a connection to this listener, and returns the closed sheet.
 ///
-/// Whoever ends a session leaves its seat to the next, which begins with all that was seen at the seat before. A
-/// connection that finds no free seat waits for one; after the time to wait, and where 512 others wait already, it is
-/// told `err 21 seat` and closed. A session whose connection fails ends alone, and so does one whose peer sends nothing
-/// for the time that was given.
+/// It returns once as many sessions as were asked for have ended. If no number was asked for, it serves until the
+/// program is stopped.
+///
+/// - A session that ends leaves its slot to the next, which begins with all that was seen in the slot before.
+/// - A connection that finds no free slot waits for one. After the time to wait, or if 512 others already wait, it gets
+///   `err 21 seat` and is closed.
+/// - A session whose connection fails ends alone. So does one whose peer sends nothing for the idle time. Without an
+///   idle time, a peer that never sent a whole line has half a minute.
+/// - A page may also follow the changes, without a slot: it gets the number of changes, after each change.
+/// - Once as many sessions as were asked for have begun, requests are still answered until the last session has ended.
+/// - If no number was asked for, and the system has no file or no memory for a connection, it warns and tries again.
 ///
 /// # Errors
 ///
-/// `Device` where a connection can't be accepted, once the sessions that were begun have ended; `Memory` and `Seat`
-/// before the first is accepted.
+/// - `Device`: a connection can't be accepted for any other reason; returned once the sessions that were begun have
+///   ended.
+/// - `Memory` and `Seat`: before the first connection is accepted.
 ///
-/// Cost: that of the lines; 0.4 MB of memory for each seat, and a thread for each session under way, with up to 0.3 MB
-/// more where it was pushed a long line. Memory doesn't grow with the sessions that have ended.
-pub fn serve_on<R: Threads + Wait + Clock + Sync>(
+/// Cost: that of the lines. A session under way takes a thread and 0.2 MB of memory, and up to 0.3 MB more if a long
+/// line was pushed to it. A free slot takes next to nothing. Memory doesn't grow with the sessions that have ended.
+pub fn serve_on<R: Threads + Wait + Clock + Sync, W: Warn>(
     resources: Resources<'_, R>,
     options: ServerOptions<'_>,
     sheet: Sheet,
+    warner: &mut W,
 ) -> Result<Closed, Refusal>
     ensures asked { IfOk result (λ closed. options.entry.sessions ≡ Some closed.sessions) }
     ensures served { IfOk result (λ closed. IsServed options.entry.seats closed.sessions sheet closed.sheet) }
     ensures refused { IfErr result (λ e. (e ≡ Memory) ⊎ (e ≡ Seat) ⊎ (e ≡ Device)) }
 {
-    // (where nothing is kept, nobody is warned)
-    let mut warner = Unwarned;
     let Closed {
         sheet,
         sessions,
         ..
-    } = serve_sheet::<R, MemoryDevice, Unwarned>(resources, options, sheet, None, &mut warner)?;
+    } = serve_sheet::<R, MemoryDevice, W>(resources, options, sheet, None, warner)?;
     Ok(Closed {
         sheet,
         sessions,
@@ -76,14 +81,18 @@ pub fn serve_on<R: Threads + Wait + Clock + Sync>(
     })
 }
 
-/// Serves sessions on a sheet as [`serve_on`] does, and keeps it in this journal: nothing that a session is told, or
-/// that a reply shows, is handed on before it is on the disk.
+/// Serves sessions on a sheet as [`serve_on`] does, and keeps it in this journal.
 ///
-/// At the end the journal's kept lines tell all of the closed sheet's history. Where the journal's device fails, or
-/// there is no memory for a line, nothing is handed on any more that isn't kept, and the sessions are ended. Then it is
-/// refused as `Device`; but where memory alone lacked, no session was left to be begun, and the last sync, at the
-/// close, goes well, the end is as if it had been there. Else it is refused as `serve_on` is. The warner warns soon
-/// after a session was pushed changes that are the sheet's replica's own, and new.
+/// All that a reply shows or acknowledges is durable before the reply is sent. At the end the journal has all of the
+/// closed sheet's history. The warner warns soon after a session was pushed new changes of the sheet's own replica.
+///
+/// If the journal's device fails, or a line is out of memory, nothing is sent any more that isn't durable. The sessions
+/// are ended, and the result is `Device`. There is one exception, when only memory was lacking: if no session was left
+/// to be begun, and the last sync, at the close, succeeds, the result is as if there had been memory.
+///
+/// # Errors
+///
+/// `Device`, as above, and the errors of [`serve_on`].
 ///
 /// Cost: that of `serve_on`, and of the syncs, one for all sessions that wait at a time.
 pub fn serve_kept_on<R: Threads + Wait + Clock + Sync, D: Device + Drop + Send, W: Warn>(
@@ -112,7 +121,7 @@ pub fn serve_kept_on<R: Threads + Wait + Clock + Sync, D: Device + Drop + Send, 
     })
 }
 
-/// Serves sessions on a sheet that a journal keeps, or nobody, until as many as were asked for have ended.
+/// Serves sessions on a sheet, with a journal or none, until as many as were asked for have ended.
 fn serve_sheet<R: Threads + Wait + Clock + Sync, D: Device + Drop + Send, W: Warn>(
     resources: Resources<'_, R>,
     options: ServerOptions<'_>,
@@ -134,7 +143,7 @@ fn serve_sheet<R: Threads + Wait + Clock + Sync, D: Device + Drop + Send, W: War
     serve_parts::<Brand, R, D, W>(resources, options, parts, journal, changes, warner)
 }
 
-/// How many seats are made: as many as are asked for, or as there are sessions, where these are fewer.
+/// Returns the number of slots: as many as are asked for, or as there are sessions, if these are fewer.
 fn seats_for(options: ServerOptions<'_>) -> usize
     ensures range { (1 ≤ result) × (result ≤ SEATS) }
     ensures some { IfSome options.entry.sessions (λ n. result ≡ min n options.entry.seats) }
@@ -146,7 +155,7 @@ fn seats_for(options: ServerOptions<'_>) -> usize
     }
 }
 
-/// Serves the sessions of a desk that is made from these parts, with so many changes, and gives back what it closed.
+/// Serves the sessions of a desk that is made from these parts, with `changes` changes, and returns what it closed.
 fn serve_parts<
     L: DeskName + Send + Sync,
     R: Threads + Wait + Clock + Sync,
@@ -191,7 +200,7 @@ fn serve_parts<
     }
 }
 
-/// The keeper of a desk that was just opened with so many changes, where there is a journal of them.
+/// Returns the keeper of a desk that was just opened with `changes` changes, if there is a journal of them.
 fn keeper_of<L: DeskName, W: Wait + Drop, D: Device + Drop>(
     journal: Option<Journal<D>>,
     desk: &Desk<L, W>,
@@ -209,7 +218,7 @@ fn keeper_of<L: DeskName, W: Wait + Drop, D: Device + Drop>(
     }
 }
 
-/// Ends a desk, whose passes are given back, and has what isn't kept yet kept, where it has a keeper.
+/// Closes a desk whose passes are back, and syncs what isn't durable yet, if it has a keeper.
 fn close<L: DeskName, W: Wait + Drop, D: Device + Drop, R: Wait>(
     resources: Resources<'_, R>,
     desk: Desk<L, W>,
@@ -231,15 +240,15 @@ fn close<L: DeskName, W: Wait + Drop, D: Device + Drop, R: Wait>(
     let Some(keeper) = keeper else {
         return Ok((desk.close(threads, passes), None));
     };
-    // (that all of the history is kept says more than what each session was told)
+    // that all of the history is durable says more than the tokens of the sessions
     let told = Vec::new(alloc);
     let Ended {
         sheet,
         journal,
         synced,
     } = keeper.close(threads, alloc, desk, passes, told.as_slice());
-    // (a sheet of which something isn't kept is let go, with its journal: nobody may be told that it was closed. A
-    // failure has no cause, so where memory lacked it is told as a device's, too)
+    // A sheet that isn't durable as a whole is dropped with its journal, so that nobody takes it for closed. The
+    // failure carries no cause, so a lack of memory is reported as a device's failure, too.
     match synced {
         Ok(()) => Ok((sheet, Some(journal))),
         Err(Failed) => Err(Refusal::Device),

@@ -1,11 +1,13 @@
-//! Sessions of one desk, each over a connection and in a thread of its own, and how a slot goes on to the next.
-ghost use Rattle.std.specs.Prelude.{◌≡◌, ◌≤◌, ◌⊎◌, [], Some, IfErr, IfOk, IfSome, map, sum_by, vec_capacity, vec_len};
+//! Sessions of one desk, each over a connection and in a thread of its own, and how a slot passes to the next.
+ghost use Rattle.std.specs.Prelude.{◌≡◌, ◌≤◌, ◌⊎◌, [], Some, IfErr, IfOk, IfSome, length, map, sum_by, vec_capacity};
+ghost use Rattle.std.specs.Prelude.{vec_len};
 ghost use Rattle.ps_grid.specs.declared.refusal.Refusal.TheVariants.{Device, Memory};
 ghost use Rattle.ps_server.specs.Sessions.{AreBack, Back};
 
-use crate::entrance::Entrance;
+use crate::entrance::{Entrance, passes as is_passing};
 use crate::lobby::Lobby;
 use crate::options::ServerOptions;
+use crate::reception;
 use crate::shared::{Server, SharedState};
 use crate::slot::{EndFlag, Slot};
 use crate::warning::Warn;
@@ -13,26 +15,48 @@ use ps_desk::{Desk, DeskName, Pass};
 use ps_grid::Refusal;
 use ps_keep::Device;
 use ps_session::Resources;
+use std::alloc::{AllocError, Global};
 use std::sync::Wait;
-use std::sync::atomic::AtomicU64;
+use std::sync::atomic::AtomicBool;
 use std::thread::{Scope, Threads};
 use std::time::{Clock, Instant};
 use std::{io, thread};
 
-/// A slot for each pass, which no session has had.
-fn set_up<'s, L: DeskName>(passes: Vec<Pass<L>>, word: &'s AtomicU64, slots: &mut Vec<Slot<'s, L>>)
+/// The length of a pause in which nobody comes, in milliseconds.
+const PAUSE: u64 = 5;
+
+/// The length of a pause in which no connection can be accepted, in milliseconds.
+const CROWDED_PAUSE: u64 = 100;
+
+/// Returns a place for each of `count` sessions to show that it is over.
+fn end_flags(alloc: Global, count: usize) -> Result<Vec<AtomicBool>, AllocError>
+    ensures { IfOk result (λ flags. vec_len flags ≡ count) }
+{
+    let mut flags = Vec::with_capacity(alloc, count)?;
+    for made in 0..count {
+        flags.push(AtomicBool::new(false))?;
+    }
+    Ok(flags)
+}
+
+/// Makes a slot for each pass, which no session has had, with a flag of its own.
+fn set_up<'s, L: DeskName>(
+    passes: Vec<Pass<L>>,
+    flags: &'s [AtomicBool],
+    slots: &mut Vec<Slot<'s, L>>,
+)
     requires none { slots.old.items ≡ [] }
+    requires flags { length flags.now ≡ vec_len passes }
     requires room { vec_len passes ≤ vec_capacity slots.old }
     ensures firsts { map (λ t. t.first) slots.new.items ≡ passes.items }
 {
-    let mut bit = 1u64;
     for pass in passes {
-        slots.push_reserved(Slot::new(pass, EndFlag::new(word, bit)));
-        bit = bit.rotate_left(1);
+        let flag = EndFlag::new(&flags[slots.len()]);
+        slots.push_reserved(Slot::new(pass, flag));
     }
 }
 
-/// How many sessions were begun, if a number counts them.
+/// Returns the number of sessions that were begun; none if it has more than 64 bits.
 fn begun_by<L: DeskName>(slots: &Vec<Slot<'_, L>>) -> Option<u64>
     ensures { IfSome result (λ n. n ≡ sum_by (λ t. t.begun) slots.now.items) }
 {
@@ -43,14 +67,14 @@ fn begun_by<L: DeskName>(slots: &Vec<Slot<'_, L>>) -> Option<u64>
     Some(all)
 }
 
-/// How many sessions are still to be begun; none where there is no end to them.
+/// Returns the number of sessions that are still to be begun; none if they have no end.
 fn left_of<L: DeskName>(asked: Option<u64>, slots: &Vec<Slot<'_, L>>) -> Option<u64>
     ensures { result ≡ Some 0 → asked ≡ Some (sum_by (λ t. t.begun) slots.now.items) }
 {
     asked?.checked_sub(begun_by(slots)?)
 }
 
-/// Takes the passes of sessions that are over back, and gives those that are free to the connections that wait.
+/// Takes back the passes of sessions that are over, and gives free slots to the connections that wait, if that is due.
 fn turn_all<
     's,
     E,
@@ -63,43 +87,64 @@ fn turn_all<
     resources: Resources<'s, R>,
     server: &Server<'s, L, W, D>,
     slots: &mut Vec<Slot<'s, L>>,
+    is_due: bool,
 )
     ensures { map (λ t. t.first) slots.new.items ≡ map (λ t. t.first) slots.old.items }
 {
-    for slot in slots.iter_mut() {
-        slot.turn(scope, resources, server);
+    if is_due {
+        for slot in slots.iter_mut() {
+            slot.turn(scope, resources, server);
+        }
     }
 }
 
-/// Lets one connection in, if so many sessions more are wanted. It waits for one to come where nothing else may happen
-/// meanwhile, and else pauses where none has come.
-fn let_in<'s, E, L: DeskName, W: Wait + Drop, D: Device + Drop, R: Threads + Wait + Clock + Sync>(
+/// Lets one connection in, and returns whether something happened.
+///
+/// If `may_wait` is true it waits for a connection. Else it pauses if there is none, or if none can be accepted for
+/// now.
+fn let_in<
+    's,
+    E,
+    L: DeskName + Send + Sync + 's,
+    W: Wait + Drop + Send + 's,
+    D: Device + Drop + Send + 's,
+    R: Threads + Wait + Clock + Sync,
+    T: Warn,
+>(
     scope: &Scope<'s, E>,
-    rt: &'s R,
+    resources: Resources<'s, R>,
     server: &Server<'s, L, W, D>,
     entrance: &mut Entrance<'_>,
-    left: Option<u64>,
-) -> io::Result<()> {
-    let lobby = server.lobby;
-    let is_enough = match left {
-        Some(count) => count <= lobby.waiting(rt) as u64,
-        None => false,
-    };
-    let waits = lobby.is_empty(rt) && !server.shared.is_watchful();
-    let come = if is_enough {
-        None
-    } else {
-        entrance.come(rt, waits)?
-    };
-    match come {
-        Some(stream) => lobby.let_in(scope, rt, stream),
-        None => lobby.pause(rt),
+    may_wait: bool,
+    warner: &mut T,
+) -> io::Result<bool> {
+    let rt = resources.threads;
+    match entrance.come(rt, may_wait) {
+        Ok(Some(stream)) => {
+            reception::let_in(scope, resources, server, stream);
+            Ok(true)
+        }
+        Ok(None) => Ok(server.lobby.pause(rt, PAUSE)),
+        Err(error) if server.asked.is_none() && is_passing(&error) => {
+            warner.warn_of_crowd();
+            Ok(server.lobby.pause(rt, CROWDED_PAUSE))
+        }
+        Err(error) => Err(error),
     }
-    Ok(())
 }
 
-/// Gives the slots to the connections that come, until as many sessions as were asked for have begun, and returns their
-/// number; none where a connection can't be accepted, or sessions may not go on. Meanwhile it warns as `warn_by` does.
+/// Returns whether nothing can happen at a server before a connection comes.
+fn may_wait<L: DeskName, W: Wait + Drop, D: Device + Drop, R: Wait>(
+    rt: &R,
+    server: &Server<'_, L, W, D>,
+) -> bool {
+    server.lobby.is_empty(rt) && !server.shared.is_watchful()
+}
+
+/// Gives the slots to the connections that come, until as many sessions as were asked for have begun.
+///
+/// Returns their number; none if a connection can't be accepted, or sessions may not go on. Meanwhile it warns as
+/// `warn_by` does.
 fn give_slots<
     's,
     E,
@@ -124,28 +169,63 @@ fn give_slots<
         if left == Some(0) {
             return server.asked;
         }
-        if !server.shared.goes_on()
-            || let_in(scope, resources.threads, server, entrance, left).is_err()
-        {
+        if !server.shared.goes_on() {
             return None;
         }
-        // (who comes while slots are given gets one at the next turn)
+        let may_wait = may_wait(resources.threads, server);
+        let Ok(happened) = let_in(scope, resources, server, entrance, may_wait, warner) else {
+            return None;
+        };
+        // a connection that comes while slots are given gets one at the next turn
         let now = Instant::now(resources.threads).ok();
-        turn_all(scope, resources, server, slots);
+        let is_due = happened || server.lobby.has_waiting(resources.threads);
+        turn_all(scope, resources, server, slots, is_due);
         server.lobby.turn_away_late(resources.threads, now);
         warn_by(server.shared, warner);
     }
     unreachable!()
 }
 
-/// Warns once the sessions were pushed changes of the desk's own replica that were new.
+/// Answers the requests that come while the last sessions are under way, and turns those away that want a slot.
+///
+/// It ends once all sessions are over, or may not go on.
+fn see_out<
+    's,
+    E,
+    L: DeskName + Send + Sync + 's,
+    W: Wait + Drop + Send + 's,
+    D: Device + Drop + Send + 's,
+    R: Threads + Wait + Clock + Sync,
+    T: Warn,
+>(
+    scope: &Scope<'s, E>,
+    resources: Resources<'s, R>,
+    server: &Server<'s, L, W, D>,
+    entrance: &mut Entrance<'_>,
+    slots: &Vec<Slot<'s, L>>,
+    warner: &mut T,
+) {
+    server.lobby.close_slots(resources.threads);
+    for _ in resources.threads.forever() {
+        let is_over = slots.iter().all(|slot| slot.is_quiet());
+        if is_over
+            || !server.shared.goes_on()
+            || let_in(scope, resources, server, entrance, false, warner).is_err()
+        {
+            return;
+        }
+        warn_by(server.shared, warner);
+    }
+}
+
+/// Warns if new changes of the desk's own replica were pushed to the sessions.
 fn warn_by<L: DeskName, D: Device + Drop, T: Warn>(shared: &SharedState<L, D>, warner: &mut T) {
     if shared.is_elsewhere() {
         warner.warn();
     }
 }
 
-/// Has each session that is under way end soon, where they may not go on.
+/// Ends each session that is under way soon, if they may not go on.
 fn hang_up<L: DeskName, D: Device + Drop>(shared: &SharedState<L, D>, slots: &Vec<Slot<'_, L>>) {
     if !shared.goes_on() {
         for slot in slots {
@@ -154,7 +234,7 @@ fn hang_up<L: DeskName, D: Device + Drop>(shared: &SharedState<L, D>, slots: &Ve
     }
 }
 
-/// Waits for the end of each session that is under way, and gives the passes up.
+/// Waits for the end of each session that is under way, and gives their passes back.
 fn end_all<L: DeskName, R: Threads>(rt: &R, slots: Vec<Slot<'_, L>>, back: &mut Vec<Pass<L>>)
     requires none { back.old.items ≡ [] }
     requires room { vec_len slots ≤ vec_capacity back.old }
@@ -166,12 +246,15 @@ fn end_all<L: DeskName, R: Threads>(rt: &R, slots: Vec<Slot<'_, L>>, back: &mut 
     }
 }
 
-/// Serves the connections that come, as many at a time as there are passes, and gives the passes back with the number
-/// of sessions once as many as were asked for have ended.
+/// Serves the connections that come, as many at a time as there are passes. Once as many sessions as were asked for
+/// have ended, it returns their number and the passes.
 ///
-/// Refused as `Device` where a connection can't be accepted, or what the sessions have seen can't be kept while some
-/// are still to be begun, once those that were begun have ended, and out of memory before the first is accepted. Where
-/// none is still to be begun, the last sync tells whether all is kept.
+/// # Errors
+///
+/// - `Memory`: out of memory, before the first connection is accepted.
+/// - `Device`: a connection can't be accepted, or what the sessions have seen can't be kept while some are still to be
+///   begun; returned once those that were begun have ended. If none is still to be begun, the last sync decides whether
+///   all is kept.
 pub(crate) fn serve_all<
     L: DeskName + Send + Sync,
     W: Wait + Drop + Send,
@@ -191,14 +274,15 @@ pub(crate) fn serve_all<
     ensures back { IfOk result (λ r. AreBack L.replica L.opening r.0 passes.items r.1.items) }
     ensures refused { IfErr result (λ e. (e ≡ Memory) ⊎ (e ≡ Device)) }
 {
-    let word = AtomicU64::new(0);
-    let flags = &word;
+    let end_flags = end_flags(resources.alloc, passes.len())?;
+    let flags = end_flags.as_slice();
     let lobby = Lobby::new(resources.alloc, options)?;
     let lobby = &lobby;
     thread::scope(
         thread::scope_env(),
         resources.threads,
         |scope| -> Result<(u64, Vec<Pass<L>>), Refusal>
+            requires { length flags.now ≡ vec_len passes }
             ensures len { IfOk result (λ r. vec_len r.1 ≡ vec_len passes) }
             ensures asked { IfOk result (λ r. options.entry.sessions ≡ Some r.0) }
             ensures back { IfOk result (λ r. AreBack L.replica L.opening r.0 passes.items r.1.items) }
@@ -216,6 +300,9 @@ pub(crate) fn serve_all<
                 asked,
             };
             let given = give_slots(scope, resources, &server, &mut entrance, &mut slots, warner);
+            if given.is_some() {
+                see_out(scope, resources, &server, &mut entrance, &slots, warner);
+            }
             lobby.close(resources.threads);
             entrance.close();
             hang_up(shared, &slots);

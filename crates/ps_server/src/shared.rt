@@ -1,4 +1,4 @@
-//! What the sessions of a server share: a desk and, where it is kept, its keeper.
+//! What the sessions of a server share: a desk and perhaps its keeper.
 ghost use Rattle.std.specs.Prelude.{◌≡◌, is_some};
 
 use crate::lobby::Lobby;
@@ -6,11 +6,12 @@ use crate::marker::Marker;
 use ps_desk::{Desk, DeskName};
 use ps_keep::Device;
 use ps_kept_desk::DeskKeeper;
+use ps_session::Resources;
 use std::net::TcpStream;
 use std::sync::Wait;
 use std::sync::atomic::{AtomicBool, Ordering};
 
-/// What the sessions of a desk share besides it. Where there is a keeper they are told nothing but what it keeps.
+/// What the sessions of a desk share besides it. If there is a keeper, they report only what it has kept.
 #[derive(Drop)]
 pub(crate) struct SharedState<L: DeskName, D: Device + Drop> {
     keeper: Option<DeskKeeper<L, D>>,
@@ -21,7 +22,7 @@ pub(crate) struct SharedState<L: DeskName, D: Device + Drop> {
 }
 
 impl<L: DeskName, D: Device + Drop> SharedState<L, D> {
-    /// The state of sessions with this keeper, or with none.
+    /// Creates the state of sessions with this keeper, or with none.
     pub(crate) fn new(keeper: Option<DeskKeeper<L, D>>) -> SharedState<L, D>
         ensures { result.keeper ≡ keeper }
     {
@@ -32,7 +33,7 @@ impl<L: DeskName, D: Device + Drop> SharedState<L, D> {
         }
     }
 
-    /// The keeper, once no session has it any more.
+    /// Returns the keeper, once no session uses it any more.
     pub(crate) fn into_keeper(self) -> Option<DeskKeeper<L, D>>
         ensures { result ≡ self.keeper }
     {
@@ -40,41 +41,56 @@ impl<L: DeskName, D: Device + Drop> SharedState<L, D> {
         keeper
     }
 
-    /// The keeper, for a session.
+    /// Returns the keeper, for a session.
     pub(crate) fn keeper(&self) -> Option<&DeskKeeper<L, D>>
         ensures { is_some result ≡ is_some self.now.keeper }
     {
         self.keeper.as_ref()
     }
 
-    /// What looks on at a session that has the keeper.
+    /// Keeps all that is shown by now, if there is a keeper, and returns whether that succeeded.
+    pub(crate) fn has_kept<W: Wait + Drop, R: Wait>(
+        &self,
+        resources: Resources<'_, R>,
+        desk: &Desk<L, W>,
+    ) -> bool {
+        let Resources { threads, alloc } = resources;
+        match &self.keeper {
+            Some(keeper) => keeper.keep_shown(threads, alloc, desk).is_ok(),
+            None => true,
+        }
+    }
+
+    /// Returns the watcher of a session that has the keeper.
     pub(crate) fn marker(&self) -> Marker<'_> {
         Marker {
             mark: &self.is_elsewhere,
         }
     }
 
-    /// Has no session go on: what one of them has seen couldn't be kept.
+    /// Stops all sessions: what one of them has seen couldn't be kept.
     pub(crate) fn stop(&self) {
         self.is_stopped.store(true, Ordering::SeqCst);
     }
 
-    /// Whether sessions may go on.
+    /// Returns whether sessions may go on.
     pub(crate) fn goes_on(&self) -> bool {
         !self.is_stopped.load(Ordering::SeqCst)
     }
 
-    /// Whether the replica of the desk makes changes elsewhere, too, by what its sessions were pushed.
+    /// Returns whether the replica of the desk makes changes elsewhere, too: new changes of its own were pushed to a
+    /// session.
     pub(crate) fn is_elsewhere(&self) -> bool {
         self.is_elsewhere.load(Ordering::SeqCst)
     }
 
-    /// Whether a time may come at which they may not.
+    /// Returns whether the sessions may have to stop at some time.
     pub(crate) fn is_watchful(&self) -> bool {
         self.keeper.is_some()
     }
 
-    /// A second handle to the connection, where it is to be closed once sessions may not go on.
+    /// Returns a second handle to the connection, if there is a keeper, to close the connection once sessions have to
+    /// stop.
     pub(crate) fn closing_handle(&self, stream: &TcpStream) -> Option<TcpStream> {
         match self.keeper {
             Some(_) => stream.try_clone().ok(),
@@ -89,6 +105,6 @@ pub(crate) struct Server<'s, L: DeskName, W: Wait + Drop, D: Device + Drop> {
     pub(crate) desk: &'s Desk<L, W>,
     pub(crate) shared: &'s SharedState<L, D>,
     pub(crate) lobby: &'s Lobby,
-    /// none where there is no end to them
+    /// none if they have no end
     pub(crate) asked: Option<u64>,
 }

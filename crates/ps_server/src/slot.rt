@@ -1,10 +1,9 @@
-//! A slot for sessions: a seat of the desk, through the sessions that have it one after another.
+//! A slot: room for one session at a time, and for the next once that is over.
 ghost use Rattle.std.specs.Prelude.{◌≡◌, ◌+◌, ◌<◌, ◌^◌, true, MatchResult};
 ghost use Rattle.ps_server.specs.Sessions.{Attended, IsAttended};
 
 use crate::arrival::Arrival;
 use crate::attend::attend;
-use crate::connection::DeskSeat;
 use crate::shared::Server;
 use ps_desk::{DeskName, Pass, desk_is_sync};
 use ps_keep::Device;
@@ -14,11 +13,11 @@ use std::marker::Model;
 use std::net::{Shutdown, TcpStream};
 use std::snapshot::Snapshot;
 use std::sync::Wait;
-use std::sync::atomic::{AtomicU64, Ordering};
+use std::sync::atomic::{AtomicBool, Ordering};
 use std::thread::{Promise, PromisedHandle, Scope, Threads};
 use std::time::Clock;
 
-/// That a session gives its pass back, as the lines that its seat answered left this one.
+/// The promise that a session gives its pass back, as its lines left this one.
 #[derive(Drop)]
 struct ComesBack<L: DeskName>(Snapshot<Pass<L>>);
 
@@ -31,40 +30,41 @@ impl<L: DeskName> Promise<Pass<L>> for ComesBack<L> {
 /// The holder of a slot's pass: the thread of a session, or the slot itself while it is free.
 type Holder<L> = Result<PromisedHandle<Pass<L>, ComesBack<L>>, Pass<L>>;
 
-/// Where a session shows that it is over, so that nobody has to wait for it: a bit of a word that all share.
+/// The flag by which the session of a slot shows that it is over, so that nobody has to wait for it. Each slot has its
+/// own.
 #[derive(Clone, Copy)]
 pub(crate) struct EndFlag<'s> {
-    word: &'s AtomicU64,
-    bit: u64,
+    is_over: &'s AtomicBool,
 }
 
 impl<'s> EndFlag<'s> {
-    /// The flag of this bit.
-    pub(crate) fn new(word: &'s AtomicU64, bit: u64) -> EndFlag<'s> {
-        EndFlag { word, bit }
+    /// Returns the flag that is stored here.
+    pub(crate) fn new(is_over: &'s AtomicBool) -> EndFlag<'s> {
+        EndFlag { is_over }
     }
 
     fn is_up(self) -> bool {
-        self.word.load(Ordering::SeqCst) & self.bit != 0
+        self.is_over.load(Ordering::SeqCst)
     }
 
     fn raise(self) {
-        self.word.fetch_or(self.bit, Ordering::SeqCst);
+        self.is_over.store(true, Ordering::SeqCst);
     }
 
     fn lower(self) {
-        self.word.fetch_and(!self.bit, Ordering::SeqCst);
+        self.is_over.store(false, Ordering::SeqCst);
     }
 }
 
-/// A slot for sessions: the pass of its seat is here, or a session has it in a thread of its own. A contract sees it as
-/// the pass that it began with, and how many sessions were begun.
+/// A slot for sessions: it holds the pass of its seat, or a session has it in a thread of its own.
+///
+/// A contract sees it as the pass that it began with, and the number of sessions that were begun.
 #[derive(Drop)]
 pub(crate) struct Slot<'s, L: DeskName> {
     first: Snapshot<Pass<L>>,
     begun: u64,
     flag: EndFlag<'s>,
-    /// a second handle to the connection of the last session, where it may have to be closed
+    /// a second handle to the connection of the last session, if it may have to be closed
     closing_handle: Option<TcpStream>,
     /// out while it changes
     state: Option<Holder<L>>,
@@ -88,7 +88,7 @@ impl<'s, L: DeskName> Model for Slot<'s, L> {
 }
 
 impl<'s, L: DeskName> Slot<'s, L> {
-    /// A slot that no session has had.
+    /// Creates a slot that no session has had.
     pub(crate) fn new(pass: Pass<L>, flag: EndFlag<'s>) -> Slot<'s, L>
         ensures { result ≡ record { first = pass; begun = 0 } }
     {
@@ -101,18 +101,23 @@ impl<'s, L: DeskName> Slot<'s, L> {
         }
     }
 
-    /// How many sessions were begun.
+    /// Returns the number of sessions that were begun.
     pub(crate) fn begun(&self) -> u64
         ensures { result ≡ self.now.begun }
     {
         self.begun
     }
 
-    /// Whether no session has it.
+    /// Returns whether no session has the slot.
     fn is_free(&self) -> bool
         ensures { result ≡ true → self.now.begun + 1 < 2 ^ 64 }
     {
         matches!(self.state, Some(Err(_))) && self.begun < u64::MAX
+    }
+
+    /// Returns whether no session is under way in the slot.
+    pub(crate) fn is_quiet(&self) -> bool {
+        self.flag.is_up() || matches!(self.state, Some(Err(_)))
     }
 
     /// Takes the pass back, if the session that has it is over.
@@ -122,10 +127,11 @@ impl<'s, L: DeskName> Slot<'s, L> {
         if self.flag.is_up() {
             let pass = given_back(rt, self.state.take().unwrap());
             self.state = Some(Err(pass));
+            self.closing_handle = None;
         }
     }
 
-    /// Closes the connection of the session that has it, where there is a handle to it, so that the session ends.
+    /// Closes the connection of the slot's session, if there is a handle to it, so that the session ends.
     pub(crate) fn hang_up(&self) {
         match &self.closing_handle {
             Some(stream) => {
@@ -135,7 +141,7 @@ impl<'s, L: DeskName> Slot<'s, L> {
         }
     }
 
-    /// Waits for the end of the session that has it, and gives the pass up.
+    /// Waits for the end of the slot's session, and returns the pass.
     pub(crate) fn end<R: Threads>(self, rt: &R) -> Pass<L>
         ensures { Attended L.replica L.opening self.entry.begun self.entry.first result }
     {
@@ -143,8 +149,8 @@ impl<'s, L: DeskName> Slot<'s, L> {
         given_back(rt, state.unwrap())
     }
 
-    /// Takes the pass back, if the session that has it is over, and gives it to the connection that waits first, if
-    /// it is free.
+    /// Takes the pass back, if the session that has it is over. If the slot is free, it gives it to the connection that
+    /// waits first.
     pub(crate) fn turn<
         E,
         W: Wait + Drop + Send + 's,
@@ -190,7 +196,7 @@ impl<'s, L: DeskName> Slot<'s, L> {
     }
 }
 
-/// Begins a session over a connection, in a thread of its own. Where none can be started, the session is run here.
+/// Begins a session over a connection, in a thread of its own. If none can be started, the session is run here.
 fn begin<
     's,
     E,
@@ -221,13 +227,7 @@ fn begin<
             ensures { IsAttended L.replica L.opening pass result }
         {
             lobby.has_slot(&arrival);
-            let end = attend(
-                resources,
-                DeskSeat { desk, pass },
-                shared,
-                &arrival,
-                lobby.idle(),
-            );
+            let end = attend(resources, desk, pass, shared, &arrival, lobby.idle());
             flag.raise();
             lobby.is_over(resources.threads, arrival);
             end.pass
@@ -239,7 +239,7 @@ fn begin<
     }
 }
 
-/// The pass, once the session that has it is over.
+/// Returns the pass, once the session that has it is over.
 fn given_back<L: DeskName, R: Threads>(rt: &R, holder: Holder<L>) -> Pass<L>
     ensures { MatchResult holder
         (λ h. IsAttended L.replica L.opening h.promise.0.value result)

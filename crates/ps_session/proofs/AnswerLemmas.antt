@@ -13,7 +13,7 @@ use Rattle.ps_session.specs.Boards.{BoardAnswers, Obeyed}
 use Rattle.ps_lines.specs.Commands.{Read, ReadsLine, with_part}
 use Rattle.ps_session.specs.Answers.{Answers, Edited, Obeys, TakesMemory}
 use Rattle.ps_lines.specs.Replies.{done_text, entries_reply, entry_reply, refusal_text, replica_text, rows_text}
-use Rattle.ps_lines.specs.Replies.{same_text, value_text}
+use Rattle.ps_lines.specs.Replies.{same_text, value_text, version_text}
 use Rattle.ps_session.specs.SheetBoard.{SheetCalls, SheetPulls}
 use Rattle.ps_lines.specs.declared.command.Command.{Command}
 use Rattle.ps_session.specs.declared.board.Merged.TheVariants.{Known, New}
@@ -145,6 +145,8 @@ module _ (old new : SheetView) (line text : List ℕ) where
       lacks (Ok (commands.Merge delta)) reads tt (told ∙ ap refusal_text memory.0) memory.1
   obeyed (Ok (commands.Replica named)) reads (number, told, is) =
       serves (commands.Replica named) reads (stays told.1, is ∙ ap replica_text told.0) (replica_stays told.1)
+  obeyed (Ok (commands.Wait seen)) reads (number, told, is) =
+      serves (commands.Wait seen) reads (stays told.1, is ∙ ap version_text told.0) (replica_stays told.1)
   obeyed (Err refusal) reads refused = elim (memory_or_other refusal) [
     | inl is ↦ lacks (Err refusal) reads is (refused.1 ∙ ap refusal_text is) refused.0
     | inr other ↦ inl (record {

@@ -15,8 +15,8 @@ use Rattle.ps_delta.specs.declared.edit.Edit.{Edit}
 use Rattle.ps_delta.specs.declared.edit.Edit.TheVariants as edits
 use Rattle.ps_sheet.specs.Edits.{assigned, delta_of_edit}
 use Rattle.ps_lines.specs.Commands.{AsksOfCell, AsksOfRectangle, AtNumber, Read, ReadsChange, ReadsLine, ReadsPair}
-use Rattle.ps_lines.specs.Commands.{ReadsPull, ReadsReplica, ReadsSet, ReadsTakingIn, ReadsVerb, group_size}
-use Rattle.ps_lines.specs.Commands.{replica_number, verb_of}
+use Rattle.ps_lines.specs.Commands.{ReadsPull, ReadsReplica, ReadsSet, ReadsTakingIn, ReadsVerb, ReadsWait}
+use Rattle.ps_lines.specs.Commands.{group_size, replica_number, verb_of}
 use Rattle.ps_lines.specs.PullReplies.{HasLine}
 use Rattle.ps_session.specs.EditLines.{IsEdit, named_count}
 use Rattle.ps_lines.specs.Words.{after_word, first_word, words, whole_number}
@@ -24,7 +24,7 @@ use Rattle.ps_lines.specs.declared.command.Command.{Command}
 use Rattle.ps_lines.specs.declared.command.Command.TheVariants as commands
 use Rattle.ps_lines.specs.declared.verb.Verb.{Verb}
 use Rattle.ps_lines.specs.declared.verb.Verb.TheVariants.{Add, Choose, Entries as AllEntries, Entry, Get, Merge}
-use Rattle.ps_lines.specs.declared.verb.Verb.TheVariants.{Pull, Push, Replica, Rows, Set, Sub, Unchoose}
+use Rattle.ps_lines.specs.declared.verb.Verb.TheVariants.{Pull, Push, Replica, Rows, Set, Sub, Unchoose, Wait}
 use Rattle.ps_session.proofs.EditLineLemmas.{add_passes, batch_passes, choose_passes, sub_passes, unchoose_passes}
 use Rattle.ps_session.proofs.EntryLemmas.{content_read}
 
@@ -55,6 +55,7 @@ AsksInRange (Ok (commands.Pull from most)) = Unit {0}
 AsksInRange (Ok (commands.Push d)) = HasLine d
 AsksInRange (Ok (commands.Merge d)) = HasLine d
 AsksInRange (Ok (commands.Replica named)) = Unit {0}
+AsksInRange (Ok (commands.Wait seen)) = Unit {0}
 AsksInRange (Err refusal) = Unit {0}
 
 number_in_grid : (c : ℕ) (refusal : Refusal) (found : Option ℕ) (p : ℕ × ℕ) (read : Read (ℕ × ℕ)) → read ≡ Ok p
@@ -135,6 +136,12 @@ replica_in_range (number ∷ []) read reads = at (replica_number (whole_number n
     at (Some n) is = subst AsksInRange (sym is) tt
 replica_in_range (number ∷ second ∷ more) read is = subst AsksInRange (sym is) tt
 
+wait_in_range : (others : List (List ℕ)) (read : Read Command) → ReadsWait others read → AsksInRange read
+wait_in_range [] read is = subst AsksInRange (sym is) tt
+wait_in_range (seen ∷ []) read reads =
+    version_in_range (whole_number seen) read _ reads (λ n is. subst AsksInRange (sym is) tt)
+wait_in_range (seen ∷ second ∷ more) read is = subst AsksInRange (sym is) tt
+
 verb_in_range : (verb : Option Verb) (others : List (List ℕ)) (rest : List ℕ) (read : Read Command)
     → ReadsVerb verb others rest read → AsksInRange read
 verb_in_range None others rest read is = subst AsksInRange (sym is) tt
@@ -160,6 +167,7 @@ verb_in_range (Some Merge) others rest read reads =
     taking_in_range (λ d. commands.Merge d) others rest read (λ d line. line) reads
 verb_in_range (Some Pull) others rest read reads = pull_in_range others read reads
 verb_in_range (Some Replica) others rest read reads = replica_in_range others read reads
+verb_in_range (Some Wait) others rest read reads = wait_in_range others read reads
 
 pub line_in_range : (line : List ℕ) (read : Read Command) → ReadsLine line read → AsksInRange read
 line_in_range line read reads =

@@ -90,6 +90,7 @@ obeyed_once r history next after (Ok (commands.Push d)) text told inside a b =
 obeyed_once r history next after (Ok (commands.Merge d)) text told inside a b =
     merged_once d history next after text told a b
 obeyed_once r history next after (Ok (commands.Replica named)) text told inside a b = (a.1 ∙ sym b.1, a.0 ∙ sym b.0)
+obeyed_once r history next after (Ok (commands.Wait seen)) text told inside a b = (a.1 ∙ sym b.1, a.0 ∙ sym b.0)
 obeyed_once r history next after (Err e) text told inside a b = (a.1 ∙ sym b.1, a.0 ∙ sym b.0)
 
 pushed_in_grid : (d : Entries) (history next : List Entries) → IsInGrid (joined_history history)
@@ -139,6 +140,8 @@ obeyed_in_grid r history next (Ok (commands.Push d)) text asks inside obeys =
     taken_in_grid d history next inside asks.lawful.in_grid obeys.0
 obeyed_in_grid r history next (Ok (commands.Merge d)) text asks inside obeys =
     merged_in_grid d history next text inside asks obeys
+obeyed_in_grid r history next (Ok (commands.Wait seen)) text asks inside obeys =
+    subst (λ (h : List Entries). IsInGrid (joined_history h)) (sym obeys.0) inside
 obeyed_in_grid r history next (Ok (commands.Replica named)) text asks inside obeys =
     subst (λ (h : List Entries). IsInGrid (joined_history h)) (sym obeys.0) inside
 obeyed_in_grid r history next (Err e) text asks inside obeys =

@@ -71,6 +71,8 @@ obeyed_lines r history next (Ok (commands.Push d)) text low high asks obeys have
     taken_lines d history next asks obeys.0 have
 obeyed_lines r history next (Ok (commands.Merge d)) text low high asks obeys have =
     merged_lines d history next text asks obeys have
+obeyed_lines r history next (Ok (commands.Wait seen)) text low high asks obeys have =
+    same_lines history next obeys.0 have
 obeyed_lines r history next (Ok (commands.Replica named)) text low high asks obeys have =
     same_lines history next obeys.0 have
 obeyed_lines r history next (Err e) text low high asks obeys have = same_lines history next obeys.0 have
@@ -110,6 +112,7 @@ obeyed_grows r history next (Ok (commands.Pull from most)) text obeys = same_gro
 obeyed_grows r history next (Ok (commands.Push d)) text obeys = taken_grows d history next obeys.0
 obeyed_grows r history next (Ok (commands.Merge d)) text obeys = merged_grows d history next text obeys
 obeyed_grows r history next (Ok (commands.Replica asked)) text obeys = same_grows history next obeys.0
+obeyed_grows r history next (Ok (commands.Wait seen)) text obeys = same_grows history next obeys.0
 obeyed_grows r history next (Err e) text obeys = same_grows history next obeys.0
 
 -- ---- what stays

@@ -1,5 +1,5 @@
--- What a sheet answers a line. It is told by the replica and by the history, the deltas that the replica has accepted;
--- what the sheet shows follows from them.
+-- What a sheet answers to a line. The replica and the history, which is the deltas that the replica has accepted,
+-- decide it; what the sheet shows follows from them.
 use Rattle.std.specs.Prelude.{◌≡◌, ◌≢◌, ◌⊎◌, ◌<◌, ◌++◌, ◌∷◌, [], ℕ, List, length, ⊤}
 use Rattle.std.specs.Prelude.{Result, Ok, Err, IsOk, unwrap_or}
 use Rattle.ps_grid.specs.declared.refusal.Refusal.{Refusal}
@@ -16,26 +16,26 @@ use Rattle.ps_csv.specs.Exports.{entry_text, exported, exported_entries, held_in
 use Rattle.ps_lines.specs.PullReplies.{HandsOut}
 use Rattle.ps_lines.specs.Commands.{Read, ReadsLine}
 use Rattle.ps_lines.specs.Replies.{done_text, entries_reply, entry_reply, refusal_text, replica_text, rows_text}
-use Rattle.ps_lines.specs.Replies.{same_text, value_text}
+use Rattle.ps_lines.specs.Replies.{same_text, value_text, version_text}
 use Rattle.ps_lines.specs.Streams.{Answering, Lines}
 use Rattle.ps_lines.specs.declared.command.Command.{Command}
 use Rattle.ps_lines.specs.declared.command.Command.TheVariants.{Edit, Entries as AllEntries, Entry, Get, Merge}
-use Rattle.ps_lines.specs.declared.command.Command.TheVariants.{Pull, Push, Replica, Rows}
+use Rattle.ps_lines.specs.declared.command.Command.TheVariants.{Pull, Push, Replica, Rows, Wait}
 
 -- what was made of an edit: its delta ends the history, and the reply is the new version; or it is refused
 abbrev pub Edited : Result Entries Refusal → List Entries → List ℕ → List Entries → Type 0
 Edited (Ok delta) history text next = (next ≡ history ++ delta ∷ []) × (text ≡ done_text (length next))
 Edited (Err refusal) history text next = (next ≡ history) × (text ≡ refusal_text refusal)
 
--- what was made of a delta that was merged: its news ends the history, and the reply is the new version; or it has
--- none, and the reply says that all is the same
+-- the outcome of a merged delta: its news ends the history, and the reply is the new version; or it has none, and the
+-- reply says that all is the same
 abbrev pub IsMerged : Entries → List Entries → List ℕ → List Entries → Type 0
 IsMerged delta history text next =
     ((news : Entries) × IsNewsDelta (joined_history history) delta news × (next ≡ history ++ news ∷ [])
     × (text ≡ done_text (length next)))
     ⊎ (IsBelow (state_of delta) (joined_history history) × (next ≡ history) × (text ≡ same_text (length next)))
 
--- what a replica with a history does where a line asks for this: the reply, and the history afterwards
+-- what a replica with a history does for a command: the reply, and the history afterwards
 abbrev pub Obeys : ℕ → List Entries → Read Command → List ℕ → List Entries → Type 0
 Obeys replica history (Ok (Edit edit)) text next =
     Edited (delta_of_edit replica (joined_history history) edit) history text next
@@ -53,6 +53,7 @@ Obeys replica history (Ok (Pull from most)) text next =
 Obeys replica history (Ok (Push delta)) text next = Takes delta history next × (text ≡ done_text (length next))
 Obeys replica history (Ok (Merge delta)) text next = IsMerged delta history text next
 Obeys replica history (Ok (Replica named)) text next = (next ≡ history) × (text ≡ replica_text replica)
+Obeys replica history (Ok (Wait seen)) text next = (next ≡ history) × (text ≡ version_text (length history))
 Obeys replica history (Err refusal) text next = (next ≡ history) × (text ≡ refusal_text refusal)
 
 -- a line does what it asks for
@@ -63,8 +64,8 @@ pub record Serves (old : SheetView) (line text : List ℕ) (new : SheetView) : T
   pub obeys : Obeys old.replica old.history asked text new.history
   pub replica : new.replica ≡ old.replica
 
--- what was asked for takes memory, at a replica with a history: an edit where its delta is made, a table, an entry, a
--- delta that is handed out or taken in; never a look at a cell or at the replica, and no edit that is refused
+-- the command takes memory, at a replica with a history: an edit if its delta is made, a table, an entry, a delta that
+-- is returned or taken in; never a look at a cell, at the version or at the replica, and no edit that is refused
 abbrev pub TakesMemory : ℕ → List Entries → Read Command → Type 0
 TakesMemory replica history (Ok (Edit edit)) = IsOk (delta_of_edit replica (joined_history history) edit)
 TakesMemory replica history (Ok (Get cell)) = ⊥
@@ -75,9 +76,10 @@ TakesMemory replica history (Ok (Pull from most)) = from < length history
 TakesMemory replica history (Ok (Push delta)) = ⊤
 TakesMemory replica history (Ok (Merge delta)) = ⊤
 TakesMemory replica history (Ok (Replica named)) = ⊥
+TakesMemory replica history (Ok (Wait seen)) = ⊥
 TakesMemory replica history (Err refusal) = refusal ≡ refusals.Memory
 
--- out of memory, a line does nothing: where memory was taken to read it, or by what it asks for
+-- out of memory, a line does nothing: memory was taken to read it, or by its command
 pub record LacksMemory (old : SheetView) (line text : List ℕ) (new : SheetView) : Type 0 where
   pub asked : Read Command
   pub reads : ReadsLine line asked
@@ -86,7 +88,7 @@ pub record LacksMemory (old : SheetView) (line text : List ℕ) (new : SheetView
   pub history : new.history ≡ old.history
   pub replica : new.replica ≡ old.replica
 
--- ANSWER: what a sheet answers a line that isn't empty, and the sheet afterwards
+-- ANSWER: the reply of a sheet to a line that isn't empty, and the sheet afterwards
 abbrev pub Answers : Answering SheetView
 Answers old line text new = Serves old line text new ⊎ LacksMemory old line text new
 

@@ -1,4 +1,4 @@
--- What a board answers a command and a line, made of what its calls answer.
+-- What a board answers to a command and to a line, made of what its calls answer.
 use Rattle.std.specs.Prelude.{◌≡◌, ℕ, List, max, Ok, Err, unwrap_or}
 use Rattle.ps_grid.specs.Rectangle.{Area, spanned}
 use Rattle.ps_value.specs.declared.value.Value.{Value}
@@ -7,15 +7,14 @@ use Rattle.ps_delta.specs.declared.edit.Edit.{Edit as SheetEdit}
 use Rattle.ps_lines.specs.Commands.{Read, ReadsLine}
 use Rattle.ps_lines.specs.PullReplies.{HandsOn}
 use Rattle.ps_lines.specs.Replies.{done_text, entries_reply, entry_reply, refusal_text, replica_text}
-use Rattle.ps_lines.specs.Replies.{rows_text, same_text, value_text}
+use Rattle.ps_lines.specs.Replies.{rows_text, same_text, value_text, version_text}
 use Rattle.ps_lines.specs.declared.command.Command.{Command}
 use Rattle.ps_session.specs.declared.board.Merged.{Merged}
 use Rattle.ps_session.specs.declared.board.Merged.TheVariants.{Known, New}
 use Rattle.ps_lines.specs.declared.command.Command.TheVariants.{Edit, Entries as AllEntries, Entry, Get, Merge}
-use Rattle.ps_lines.specs.declared.command.Command.TheVariants.{Pull, Push, Replica, Rows}
+use Rattle.ps_lines.specs.declared.command.Command.TheVariants.{Pull, Push, Replica, Rows, Wait}
 
--- what the calls of a board answer, or why they refuse: the state before, what was asked for, the answer, the state
--- after
+-- what the calls of a board answer, or why they refuse: the state before, the question, the answer, the state after
 pub record Calls (State : Type 0) : Type 1 where
   -- an edit is made: the number of its delta
   pub edits : State → SheetEdit → Read ℕ → State → Type 0
@@ -33,20 +32,22 @@ pub record Calls (State : Type 0) : Type 1 where
   pub lists : State → Area → Read (List ℕ) → State → Type 0
   -- the deltas after a number, at most so many
   pub pulls : State → ℕ → ℕ → Read (List Entries) → State → Type 0
+  -- more changes than a number are waited for: how many there are, and never a refusal
+  pub waits : State → ℕ → ℕ → State → Type 0
   -- the own replica is asked for: its number, and never a refusal
   pub replica : State → ℕ → State → Type 0
 
--- a merge is told as `ok` where something was new, and else as `same`
+-- the reply to a merge is `ok` if something was new, and else `same`
 abbrev pub merged_text : Merged → List ℕ
 merged_text (New number) = done_text number
 merged_text (Known number) = same_text number
 
--- what an answer is told as
+-- the reply that an answer becomes
 abbrev pub told : {X : Type 0} → (X → List ℕ) → Read X → List ℕ
 told text (Ok answer) = text answer
 told text (Err refusal) = refusal_text refusal
 
--- a call answered, and the reply tells its answer
+-- a call answered, and the reply has its answer
 abbrev pub TellsAnswer : {X : Type 0} → (Read X → Type 0) → (X → List ℕ) → List ℕ → Type 0
 TellsAnswer {X} Call text reply = (answer : Read X) × Call answer × (reply ≡ told text answer)
 
@@ -69,6 +70,8 @@ Obeyed calls old (Ok (Merge delta)) reply new =
     TellsAnswer (λ answer. calls.merges old delta answer new) merged_text reply
 Obeyed calls old (Ok (Replica named)) reply new =
     (number : ℕ) × calls.replica old number new × (reply ≡ replica_text number)
+Obeyed calls old (Ok (Wait seen)) reply new =
+    (number : ℕ) × calls.waits old seen number new × (reply ≡ version_text number)
 Obeyed calls old (Err refusal) reply new = (new ≡ old) × (reply ≡ refusal_text refusal)
 
 -- ANSWER: what a board with these calls answers a line that isn't empty, and the board afterwards

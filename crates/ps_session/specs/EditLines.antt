@@ -1,4 +1,4 @@
--- The lines of the deltas that edits make, and what follows for those who ask a session for its deltas.
+-- The lines of the deltas that edits make, and what follows for clients that pull them.
 use Rattle.std.specs.Prelude.{◌≡◌, ◌<◌, ◌≤◌, ℕ, List, length, Ok}
 use Rattle.std.specs.List.{All}
 use Rattle.ps_grid.specs.declared.size.TheConstants.{CELLS, COLUMNS}

@@ -1,5 +1,4 @@
--- What a session has kept where it hands replies on: whatever a reply shows or acknowledges is kept before the reply is
--- out.
+-- What a session keeps before it sends replies: whatever a reply shows or acknowledges is kept before the reply is out.
 use Rattle.std.specs.Prelude.{◌≡◌, ◌⊎◌, ◌≤◌, ℕ, List, [], ◌∷◌, ◌++◌, Option, Some}
 use Rattle.std.specs.List.{All}
 use Rattle.std.specs.Io.KnownBytes.{Appends}
@@ -25,14 +24,14 @@ pub record Halted {State : Type 0} (Line : Answering State) (ended : Type 0) (fi
   pub run : Run Line first lines text last
   pub sent : Appends written contents text
 
--- what was handed on, that is what was put without what waits, is a beginning of what was there before and the text
+-- what was sent, which is what was put without what waits, is a beginning of the earlier bytes and the text
 abbrev pub HandsOnly : Option (List ℕ) → List ℕ → Option (List ℕ) → List ℕ → Type 0
 HandsOnly written text contents waiting = (before all handed : List ℕ) → written ≡ Some before → contents ≡ Some all
     → all ≡ handed ++ waiting → (rest : List ℕ) × (handed ++ rest ≡ before ++ text)
 
--- COVERED: there is a state of the board, between the first lines of the bytes and the others that were carried out,
--- that is kept; what was handed on are the replies to these first lines or a beginning of them. Only where no reply was
--- handed on nothing needs to be kept
+-- COVERED: there is a kept state of the board, after the first lines of the bytes and before the others that were
+-- carried out. What was sent is a beginning of the replies to these first lines. If no reply was sent, nothing needs to
+-- be kept
 pub record IsCovered {State : Type 0} (Line : Answering State) (covers : State → Type 0) (ended : Type 0)
     (first : State) (written : Option (List ℕ)) (read : List ℕ) (last : State) (contents : Option (List ℕ))
     (waiting : List ℕ) : Type 0 where

@@ -77,6 +77,10 @@ SheetPulls old from most (Err refusal) new =
     ⊎ ((refusal ≡ refusals.Memory) × (from < length old.history)))
     × (new ≡ old)
 
+-- nothing is waited for: nobody else changes the sheet
+abbrev pub SheetWaits : SheetView → ℕ → ℕ → SheetView → Type 0
+SheetWaits old seen number new = (number ≡ length old.history) × (new ≡ old)
+
 -- the replica that the sheet was opened with
 abbrev pub SheetReplica : SheetView → ℕ → SheetView → Type 0
 SheetReplica old number new = (number ≡ old.replica) × (new ≡ old)
@@ -91,5 +95,6 @@ SheetCalls = record {
   holds = SheetHolds;
   lists = SheetLists;
   pulls = SheetPulls;
+  waits = SheetWaits;
   replica = SheetReplica;
 }

@@ -1,5 +1,5 @@
--- The transcript of a session: which lines the bytes hold, what each is answered, and what the answers leave. It knows
--- nothing of the pieces in which the bytes came.
+-- The transcript of a session: the lines that the bytes hold, the reply to each, and the state after them. The pieces
+-- in which the bytes came don't matter.
 use Rattle.std.specs.Prelude.{◌≡◌, ◌⊎◌, ◌<◌, ◌^◌, ◌-◌, ℕ, Bool, true, false, List, [], ◌∷◌, ◌++◌, length, take, min}
 use Rattle.std.specs.Prelude.{Option, if◌then◌else◌, nat_le, count_by}
 use Rattle.std.specs.List.{All}
@@ -63,7 +63,7 @@ pub record Cut {State : Type 0} (Line : Answering State) (ended : Type 0) (first
   pub short : count < length reply
   pub sent : Appends written contents (text ++ take count reply)
 
--- the sink failed: the reply to one line was cut; or every line was answered, and what waits could not be handed on
+-- the sink failed: the reply to one line was cut; or every line was answered, and what waits could not be sent
 abbrev pub Stopped : {State : Type 0} → Answering State → Type 0 → State → Option (List ℕ) → List ℕ → State
     → Option (List ℕ) → Type 0
 Stopped Line ended first written read last contents =

@@ -1,4 +1,4 @@
-//! What answers the commands of a session.
+//! Boards answer the commands of a session.
 ghost use Rattle.std.specs.Prelude.{◌+◌, ◌<◌, ◌^◌, ℕ, List, IfOk, length};
 ghost use Rattle.std.specs.Thread.{IsSync};
 ghost use Rattle.ps_session.specs.Boards.{BoardAnswers, Calls};
@@ -11,34 +11,34 @@ use ps_value::Value;
 use std::alloc::Global;
 use std::thread::Threads;
 
-/// What a merge of a delta came to.
+/// The outcome of a merged delta.
 #[derive(Clone, Copy, Debug, PartialEq, Eq)]
 pub enum Merged {
-    /// Something of it was new, and has this number, that is told as `ok`.
+    /// Something of the delta was new, and has this number; the reply is `ok`.
     New(u64),
-    /// All of it was known, and this is the last number, that is told as `same`.
+    /// All of the delta was known, and this is the last number; the reply is `same`.
     Known(u64),
 }
 
-/// What answers the commands of a session, by a call for each. The calls that change something count their evaluations
-/// on an `M`, and may start threads by `rt`.
+/// What answers the commands of a session, by a call for each.
 ///
-/// A refusal is told as it is, so a call is refused as out of memory only where it takes some.
+/// The calls that change something count their evaluations on an `M`, and may start threads by `rt`. A refusal becomes
+/// the reply as it is, so a call is refused as out of memory only if it takes some.
 pub trait Board<M> {
     /// What each call answers.
     ghost calls: { Calls Self };
 
-    /// What a line that isn't empty is answered.
+    /// The reply to a line that isn't empty, and the board after it.
     ghost answers: { Answering Self };
 
-    /// Says that what the calls answer is what a line is answered. It does nothing.
+    /// States that what the calls answer is the reply to a line. It does nothing.
     fn calls_answer_lines()
         ensures { (old new : Self) (line text : List ℕ) → BoardAnswers calls old line text new
             → answers old line text new };
 
-    /// Makes an edit: the number that is told as `ok`.
+    /// Makes an edit, and returns its number, for the reply `ok`.
     ///
-    /// Cost: that of the change, and of what it makes others show.
+    /// Cost: that of the change, and of the other cells that show something else by it.
     fn apply_edit<R: Threads + Sync>(
         &mut self,
         rt: &R,
@@ -49,14 +49,15 @@ pub trait Board<M> {
         requires shared { IsSync R.row }
         ensures edited { calls.edits self.old edit result self.new };
 
-    /// Whether the board has all of a delta that its own replica made. No contract says so, for no reply tells it.
+    /// Returns whether the board has all parts of a delta that its own replica made. It has no contract, as no reply
+    /// depends on it.
     ///
     /// Cost: the counts and the pairs of the delta, each with a walk over those of its cell.
     fn has_own(&self, delta: &Delta) -> bool;
 
-    /// Takes in a delta made elsewhere: the number that is told as `ok`.
+    /// Takes in a delta made elsewhere, and returns the number for the reply `ok`.
     ///
-    /// Cost: that of the change, and of what it makes others show.
+    /// Cost: that of the change, and of the other cells that show something else by it.
     fn apply_delta<R: Threads + Sync>(
         &mut self,
         rt: &R,
@@ -67,9 +68,9 @@ pub trait Board<M> {
         requires shared { IsSync R.row }
         ensures received { calls.receives self.old delta result self.new };
 
-    /// Takes in what is new of a delta made elsewhere, and nothing else of it.
+    /// Takes in only what is new of a delta made elsewhere.
     ///
-    /// Cost: that of finding what is new, of the change, and of what it makes others show.
+    /// Cost: that of finding what is new, of the change, and of the other cells that show something else by it.
     fn apply_merge<R: Threads + Sync>(
         &mut self,
         rt: &R,
@@ -80,40 +81,44 @@ pub trait Board<M> {
         requires shared { IsSync R.row }
         ensures merged { calls.merges self.old delta result self.new };
 
-    /// What a cell shows.
-    ///
-    /// Cost: constant, and no memory.
+    /// Returns what a cell shows. Takes no memory.
     fn value(&mut self, cell: Cell) -> Result<Value, Refusal>
         ensures shown { calls.shows self.old cell result self.new };
 
-    /// What the cells of a rectangle show, as the text of a table.
+    /// Returns what the cells of a rectangle show, as the text of a table.
     ///
     /// Cost: the cells of the rectangle and the bytes of the text.
     fn table(&mut self, alloc: Global, rect: Rect) -> Result<Vec<u8>, Refusal>
         ensures shown { calls.tables self.old rect (with_part (λ text. text.items) result) self.new };
 
-    /// What a cell holds: its entry.
+    /// Returns the entry of a cell: what it holds.
     ///
     /// Cost: the bytes of the entry.
     fn entry(&mut self, alloc: Global, cell: Cell) -> Result<Vec<u8>, Refusal>
         ensures held { calls.holds self.old cell (with_part (λ text. text.items) result) self.new };
 
-    /// What the cells of a rectangle hold: their entries, as the text of a table.
+    /// Returns the entries of the cells of a rectangle, as the text of a table.
     ///
     /// Cost: the cells of the rectangle and the bytes of the text.
     fn entries(&mut self, alloc: Global, rect: Rect) -> Result<Vec<u8>, Refusal>
         ensures held { calls.lists self.old rect (with_part (λ text. text.items) result) self.new };
 
-    /// The deltas after the number `from`, in order, at most so many.
+    /// Returns at most `most` deltas, in order, from the one after the first `from` on.
     ///
-    /// Cost: the deltas that are handed out.
+    /// Cost: the deltas that are returned.
     fn pull(&mut self, alloc: Global, from: u64, most: usize) -> Result<Vec<Delta>, Refusal>
         ensures pulled { calls.pulls self.old from most (with_part (λ deltas. deltas.items) result) self.new }
         ensures numbered { IfOk result (λ deltas. from + length deltas.items < 2 ^ 64) };
 
-    /// The own replica, 1 to 32.
+    /// Waits until there are more changes than `seen`, or for some time, and returns how many there are.
     ///
-    /// Cost: constant, and no memory.
+    /// If the peer has sent more already (`is_last` is false), it returns at once.
+    ///
+    /// Cost: the time that it waits.
+    fn wait(&mut self, seen: u64, is_last: bool) -> u64
+        ensures waited { calls.waits self.old seen result self.new };
+
+    /// Returns the own replica, 1 to 32. Takes no memory.
     fn replica(&mut self) -> u8
         ensures told { calls.replica self.old result self.new };
 }

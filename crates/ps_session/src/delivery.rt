@@ -9,21 +9,21 @@ use ps_device::{Failed, Sink, hand_on};
 use ps_lines::{Reply, send};
 use std::sync::ledger::Ledger;
 
-/// How replies are put on a sink of this type, and handed on.
+/// A way to put replies on a sink of this type, and to send them.
 pub trait Delivery<K> {
-    /// The bytes put so far, where the sink shows them.
+    /// The bytes put so far, if the sink shows them.
     ghost contents: { K → Option (List ℕ) };
 
-    /// The bytes that wait to be handed on.
+    /// The bytes that aren't sent yet.
     ghost waiting: { K → List ℕ };
 
-    /// How many calls failed so far.
+    /// The number of failed calls.
     ghost failures: { K → ℕ };
 
-    /// No reply is handed on before the sink is flushed.
+    /// Holds if no reply is sent before the sink is flushed.
     ghost holds_back: { Type 0 };
 
-    /// Puts a reply and its line feed; where the sink fails, a beginning of that.
+    /// Puts a reply and its line feed. If the sink fails, a beginning of them is put.
     fn put_reply(reply: &Reply, sink: &mut K) -> Result<(), Failed>
         ensures sent { Sends (contents sink.old) (contents sink.new) result (reply_text reply.now) }
         ensures calm { OnOk result (failures sink.new ≡ failures sink.old) }
@@ -31,11 +31,11 @@ pub trait Delivery<K> {
         ensures held { holds_back
             → HoldsBack (contents sink.old) (contents sink.new) (waiting sink.old) (waiting sink.new) };
 
-    /// How many bytes wait, where they are held back until the sink is flushed.
+    /// Returns how many bytes wait for a flush, on a sink that holds replies back. Other sinks return 0.
     fn waits(sink: &K) -> usize
         ensures held { 0 < result → holds_back };
 
-    /// Hands on all that waits.
+    /// Sends all that waits.
     fn hand_on(sink: &mut K) -> Result<(), Failed>
         ensures same { Keeps (contents sink.old) (contents sink.new) }
         ensures flushed { OnOk result (waiting sink.new ≡ []) }
@@ -43,7 +43,7 @@ pub trait Delivery<K> {
         ensures failed { OnErr result (failures sink.old < failures sink.new) };
 }
 
-/// Replies go to a sink as they come, and it hands them on when it likes.
+/// The delivery of a sink that may send replies at any time.
 pub struct AtOnce;
 
 impl<K: Sink> Delivery<K> for AtOnce {
@@ -69,7 +69,7 @@ impl<K: Sink> Delivery<K> for AtOnce {
     }
 }
 
-/// Replies are held back until the output is flushed.
+/// The delivery of an output that holds replies back until it is flushed.
 pub struct HeldBack;
 
 impl<K: Sink + Drop, L: Ledger> Delivery<HeldOutput<K, L>> for HeldBack {
@@ -85,7 +85,7 @@ impl<K: Sink + Drop, L: Ledger> Delivery<HeldOutput<K, L>> for HeldBack {
     ghost holds_back = { ⊤ };
 
     fn put_reply(reply: &Reply, sink: &mut HeldOutput<K, L>) -> Result<(), Failed> {
-        // the room alone is lent, so nothing that the call does can reach the sink below
+        // the call gets the room alone, so it can't reach the sink below
         send(reply, &mut sink.room)
     }
 

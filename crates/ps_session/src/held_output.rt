@@ -9,16 +9,16 @@ use ps_grid::Refusal;
 use std::alloc::Global;
 use std::sync::ledger::{Blank, Ledger};
 
-/// A sink over another one, which is given nothing before a flush.
+/// A sink over another one, which gets nothing before a flush.
 ///
-/// What was put is what that sink has, in order and whole, and then what waits. The room for what waits grows; a put is
-/// refused, and counted as a failure, where there is no memory. After a flush that failed what wasn't given yet waits
-/// still.
+/// All that was put is what that sink has, in order and whole, and then what waits. The room for what waits grows. A
+/// put that is out of memory is refused, and counted as a failure. After a failed flush, what the other sink didn't get
+/// still waits.
 #[derive(Drop)]
 pub struct HeldOutput<K: Sink + Drop, L: Ledger> {
-    /// the sink that a flush gives what waits
+    /// the sink that gets at a flush what waits
     sink: K,
-    /// the bytes put last, of which the sink has the first `sent` already, and the count of all failures
+    /// the bytes put last; the sink has the first `sent` of them already; it also counts all failures
     pub(crate) room: MemorySink<L>,
     sent: usize,
     ghost within: { sent ≤ length room.bytes.items },
@@ -27,9 +27,7 @@ pub struct HeldOutput<K: Sink + Drop, L: Ledger> {
 impl<K: Sink + Drop, L: Ledger> HeldOutput<K, L> {
     ghost use Rattle.ps_session.specs.HeldOutputs.{held_contents, held_failures, held_waiting, sink_of};
 
-    /// An output over this sink, with nothing that it holds back.
-    ///
-    /// Cost: O(1), no memory.
+    /// Creates an output over this sink that holds nothing back. Takes no memory.
     pub fn new(alloc: Global, sink: K, blank: Blank) -> HeldOutput<K, L>
         requires { IsBlankOf blank L.name L.parts }
         ensures sink { sink_of result ≡ sink }
@@ -44,9 +42,11 @@ impl<K: Sink + Drop, L: Ledger> HeldOutput<K, L> {
         }
     }
 
-    /// The same, with room for so many bytes that it holds back. Refused only when out of memory.
+    /// Creates an output as [`new`](HeldOutput::new) does, with room for this many bytes that it holds back.
     ///
-    /// Cost: O(1), and the memory.
+    /// Fails only as `Memory`.
+    ///
+    /// Cost: the memory.
     pub fn with_room(
         alloc: Global,
         sink: K,
@@ -96,9 +96,9 @@ impl<K: Sink + Drop, L: Ledger> Sink for HeldOutput<K, L> {
 
     ghost holds_back = { ⊤ };
 
-    /// Holds back the whole piece.
+    /// Holds back the whole piece, and doesn't call the sink below.
     ///
-    /// Cost: O(n) in its bytes, with the memory for them, and no call of the sink below.
+    /// Cost: O(n) in its bytes, with the memory for them.
     fn put(&mut self, piece: &[u8]) -> Result<usize, Failed> {
         self.room.put(piece)
     }

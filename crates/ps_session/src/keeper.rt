@@ -1,24 +1,26 @@
-//! Who keeps what a session has seen.
+//! Keepers keep what a session has seen before its replies are sent.
 ghost use Rattle.std.specs.Prelude.{◌≡◌, OnErr, OnOk, ⊤};
 
 use ps_device::Failed;
 use std::alloc::Global;
 
-/// Who keeps what the board of a session has: shows it to others, or has it outlive a crash. A session has it kept
+/// What keeps a board's changes: it shows them to others, or makes them outlive a crash. A session syncs its keeper
 /// before it sends replies.
 pub trait Keeper<B> {
-    /// All that a board in this state has is kept.
+    /// Holds if all that a board in this state has is kept.
     ghost covers: { Self → B → Type 0 };
 
-    /// What was noted so far is a beginning of what a board in this state has, and nothing has failed. Who lends a
-    /// keeper to a session shows that it stays so where the board has more.
+    /// Holds if what was noted is a beginning of what a board in this state has, and nothing has failed. The caller of
+    /// a session shows that it still holds once the board has more.
     ghost fits: { Self → B → Type 0 };
 
-    /// A sync may fail.
+    /// Holds if a sync may fail.
     ghost can_fail: { Type 0 };
 
-    /// Notes what the board has and wasn't noted yet, and has all of it kept. What was covered stays so, also where it
-    /// fails: then its device failed, or there was no memory. After a failure nobody syncs again.
+    /// Notes what the board has more than was noted, and has all of it kept.
+    ///
+    /// Fails if its device failed, or when out of memory. What was covered before stays covered, and no session syncs
+    /// again after that.
     ///
     /// Cost: linear in what is noted, and the time that the device takes.
     fn sync(&mut self, alloc: Global, board: &mut B) -> Result<(), Failed>

@@ -1,21 +1,19 @@
-//! Laws of sessions, as functions that do nothing: each is its contract. They are part of the public interface.
+//! Laws of sessions, as functions that do nothing. Each is its contract, and part of the public interface.
 
 ghost use Rattle.ps_session.specs.EditLines.{EditLinesFit, EditsAreLawful};
 ghost use Rattle.ps_session.specs.Laws.{TranscriptIsDecided};
 
-/// Where no reply is out of memory, the replica, the history and the bytes read decide all replies and the history
-/// afterwards.
-///
-/// Cost: none.
+/// States that the replica, the history and the bytes read decide all replies and the history afterwards, if no reply
+/// is out of memory.
 pub fn transcript_is_decided()
     ensures { TranscriptIsDecided }
 {}
 
-/// The line of what an edit makes is never too long, whatever the replica and the state: of each edit of one cell, and
-/// of each batch of at most as many cells as a row has. That what it makes is in range, as a line asks, follows from
-/// the edit and from the history: over deltas in range each edit makes one in range.
+/// States that the line of an edit's delta is never too long, whatever the replica and the state.
 ///
-/// Cost: none.
+/// It holds for each edit of one cell, and for each batch of at most as many cells as a row has. A line also asks that
+/// the delta is in range. This follows from the edit and the history: over deltas in range each edit makes one in
+/// range.
 pub fn edit_lines_fit()
     ensures fit { EditLinesFit }
     ensures lawful { EditsAreLawful }

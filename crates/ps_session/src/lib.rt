@@ -1,27 +1,30 @@
 //! Sessions: lines in, replies out.
 //!
-//! A [`Board`] is what answers commands, by a call for each. What a [`Command`] and a [`Reply`] is, and how bytes come
-//! together to lines, is said in `ps_lines`; the names that belong to a session are here, too: [`Session`] is the
-//! buffer that puts its lines together.
-//! [`converse`] is the one loop of all sessions: it reads a source to its end, obeys each line and writes its reply, in
-//! order, while a `Watcher` looks on and a [`Keeper`] has kept what the session has seen before replies are sent.
-//! [`talk`] is that loop with neither, and [`run`] the talk of a sheet, which is a board. [`sync`] is a client's:
-//! `ps_peers` asks a session at the other end of a connection.
+//! - A [`Board`] answers commands, by a call for each.
+//! - [`converse`] is the one loop of all sessions. It reads a source to its end, obeys each line and writes its reply,
+//!   in order. A `Watcher` observes each line. A [`Keeper`] keeps what the session has seen before replies are sent.
+//! - [`talk`] is that loop without watcher and keeper. [`run`] is [`talk`] for a sheet, which is a board.
+//! - [`sync`] is a client's loop, from `ps_peers`: it asks a session at the other end of a connection.
 //!
-//! It is not a connection: it opens no device. What a sheet does with an edit or a delta, it leaves to the sheet.
+//! [`Command`], [`Reply`] and [`Session`], the buffer that puts a session's lines together, come from `ps_lines`.
 //!
-//! The contract to use is that of [`converse`], and of [`run`] for a sheet alone. At the end of the input, all that was
-//! read and all that was written are a transcript (`specs/Transcript.antt`) of the board before and after, which knows
-//! nothing of pieces. Where the source failed, the complete lines were answered and their replies sent; where the sink
-//! failed, the reply to one line was cut. A line is answered as out of memory only where it takes some. Where replies
-//! are held back, the keeper covers a state on the way, and what was sent is a beginning of the replies up to that one
-//! (`IsCovered` in `specs/Keeping.antt`).
+//! This crate opens no device, and it leaves to the sheet what an edit or a delta does.
 //!
-//! The line `set A1 5` is answered `ok 1`, `get A1` then `val 5`, and `pull 0` the line of the delta that another sheet
-//! may be pushed, `delta 1 [["A1",[1,1,"5"],[],[]]]`.
+//! The contract to use is that of [`converse`], and of [`run`] for a sheet alone:
 //!
-//! Cost: reading takes no memory beyond the room of one line and, where deltas are pushed, of the longest of these once
-//! more; a line costs its bytes and what its board takes.
+//! - At the end of the input, all that was read and written is a transcript of the board before and after
+//!   (`specs/Transcript.antt`). It doesn't depend on the pieces in which the bytes came.
+//! - If the source failed, the complete lines were answered and their replies sent.
+//! - If the sink failed, the reply to one line was cut.
+//! - A line is refused as out of memory only if it takes some.
+//! - If replies are held back, the keeper covers a state on the way, and what was sent is a beginning of the replies up
+//!   to that state (`IsCovered` in `specs/Keeping.antt`).
+//!
+//! For example, the reply to `set A1 5` is `ok 1`, and to `get A1` then `val 5`. The reply to `pull 0` is
+//! `delta 1 [["A1",[1,1,"5"],[],[]]]`; the line in it can be pushed to another sheet.
+//!
+//! Cost: a line costs its bytes and what its board takes. Reading takes the room of one line, and once more that of the
+//! longest delta that is pushed.
 #![tactic(auto)]
 
 mod board;

@@ -20,8 +20,8 @@ use ps_lines::{Command, Reply, Watcher, greatest_group};
 use std::alloc::Global;
 use std::thread::Threads;
 
-/// Reads a line that isn't empty as a command, obeys it, and tells the reply; another line is refused, and nothing is
-/// changed.
+/// Reads a line that isn't empty as a command, obeys it, and puts the reply. A line that is no command is refused, and
+/// changes nothing.
 #[inline(always)]
 pub(crate) fn answer<R: Threads + Sync, B: Board<M>, M, W: Watcher, K, D: Delivery<K>>(
     tools: &mut Tools<'_, R>,
@@ -38,21 +38,20 @@ pub(crate) fn answer<R: Threads + Sync, B: Board<M>, M, W: Watcher, K, D: Delive
     ensures held { D.holds_back → HoldsBack (D.contents sink.old) (D.contents sink.new)
         (D.waiting sink.old) (D.waiting sink.new) }
 {
-    // for the law that what the calls answer is what a line is answered
+    // for the law that what the calls answer is the reply to a line
     B::calls_answer_lines();
-    let resources = tools.resources;
-    match Command::read(resources.alloc, &mut tools.decoder, line) {
+    match Command::read(tools.resources.alloc, &mut tools.decoder, line) {
         Ok(command) => {
-            obey::<R, B, M, W, K, D>(resources, line, command, board, meter, watcher, sink)
+            obey::<R, B, M, W, K, D>(tools, line, command, board, meter, watcher, sink)
         }
         Err(refusal) => refuse::<W, K, D>(line, refusal, watcher, sink),
     }
 }
 
-/// Does what a line's command asks for by the board's calls, and tells the reply.
+/// Does what a line's command asks for by the board's calls, and puts the reply.
 #[inline(always)]
 fn obey<R: Threads + Sync, B: Board<M>, M, W: Watcher, K, D: Delivery<K>>(
-    resources: Resources<'_, R>,
+    tools: &Tools<'_, R>,
     line: &[u8],
     command: Command,
     board: &mut B,
@@ -67,8 +66,8 @@ fn obey<R: Threads + Sync, B: Board<M>, M, W: Watcher, K, D: Delivery<K>>(
     ensures held { D.holds_back → HoldsBack (D.contents sink.old) (D.contents sink.new)
         (D.waiting sink.old) (D.waiting sink.new) }
 {
-    let Resources { threads, alloc } = resources;
-    // an edit and a look at a cell are told at once; for any other reply there is a place in memory
+    let Resources { threads, alloc } = tools.resources;
+    // The replies to an edit and to `get` are put here; any other has a place in memory.
     let other = match command {
         Command::Edit(edit) => {
             return match board.apply_edit(threads, alloc, edit, meter) {
@@ -89,11 +88,12 @@ fn obey<R: Threads + Sync, B: Board<M>, M, W: Watcher, K, D: Delivery<K>>(
         Command::Push(delta) => take_in(threads, alloc, delta, board, meter),
         Command::Merge(delta) => merge_in(threads, alloc, delta, board, meter),
         Command::Replica(_) => Reply::Replica(board.replica()),
+        Command::Wait(seen) => Reply::Version(board.wait(seen, tools.is_last)),
     };
     tell_other::<W, K, D>(line, other, watcher, sink)
 }
 
-/// What a cell holds.
+/// Returns the entry of a cell.
 fn show_entry<B: Board<M>, M>(alloc: Global, cell: Cell, board: &mut B) -> Reply
     ensures { TellsAnswer (λ answer. B.calls.holds board.old cell answer board.new) entry_reply (reply_text result) }
 {
@@ -103,7 +103,7 @@ fn show_entry<B: Board<M>, M>(alloc: Global, cell: Cell, board: &mut B) -> Reply
     }
 }
 
-/// The shown values of a rectangle as a table.
+/// Returns the shown values of a rectangle as a table.
 fn show_table<B: Board<M>, M>(alloc: Global, rect: Rect, board: &mut B) -> Reply
     ensures { TellsAnswer (λ answer. B.calls.tables board.old rect answer board.new) (rows_text rect.height)
         (reply_text result) }
@@ -114,7 +114,7 @@ fn show_table<B: Board<M>, M>(alloc: Global, rect: Rect, board: &mut B) -> Reply
     }
 }
 
-/// The entries of a rectangle as a table.
+/// Returns the entries of a rectangle as a table.
 fn list_entries<B: Board<M>, M>(alloc: Global, rect: Rect, board: &mut B) -> Reply
     ensures { TellsAnswer (λ answer. B.calls.lists board.old rect answer board.new) (entries_reply rect.height)
         (reply_text result) }
@@ -125,7 +125,8 @@ fn list_entries<B: Board<M>, M>(alloc: Global, rect: Rect, board: &mut B) -> Rep
     }
 }
 
-/// The reply to one who has the first `from` deltas, and takes at most so many at once: as many as one line holds.
+/// Returns the reply to a client that has the first `from` deltas: at most `most` of the next, as many as one line
+/// holds.
 #[inline(always)]
 fn hand_out<B: Board<M>, M>(alloc: Global, from: u64, most: usize, board: &mut B) -> Reply
     ensures { (answer : Read (List Entries)) × B.calls.pulls board.old from (max most 1) answer board.new

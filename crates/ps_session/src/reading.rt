@@ -1,4 +1,4 @@
-//! Reads a source to its end, and has what a session has seen kept before replies are sent.
+//! Reads a source to its end, and syncs what a session has seen before replies are sent.
 ghost use Rattle.std.specs.Prelude.{◌≡◌, ◌≢◌, ◌⊎◌, [], ◌<◌, ◌≤◌, ◌++◌, ◌+◌, ◌-◌, ◌^◌, ℕ, List, Option, Result, Some};
 ghost use Rattle.std.specs.Prelude.{Ok, Err, IfOk, IsErr, OnOk, OnErr, length, take};
 ghost use Rattle.std.specs.Io.KnownBytes.{Consumes, IsAtEnd, Keeps};
@@ -19,7 +19,7 @@ use ps_wire::Decoder;
 use std::alloc::{AllocError, Global};
 use std::thread::Threads;
 
-/// Has all kept that the board has, and then hands on what waits. So what a reply tells of is kept before the reply is
+/// Syncs all that the board has, and then sends what waits. So whatever a reply reports is kept before the reply is
 /// out.
 fn release<B: Board<M>, M, K, D: Delivery<K>, Q: Keeper<B>>(
     alloc: Global,
@@ -49,8 +49,9 @@ fn release<B: Board<M>, M, K, D: Delivery<K>, Q: Keeper<B>>(
     }
 }
 
-/// Answers each line that a piece ends. Replies that are held back are released where there are `PIECE_BYTES` bytes of
-/// them, and all at the end.
+/// Answers each line that a piece ends.
+///
+/// Held-back replies are released at `PIECE_BYTES` bytes of them, before a line `wait`, and all at the end.
 fn read_piece<R: Threads + Sync, B: Board<M>, M, W: Watcher, K, D: Delivery<K>, Q: Keeper<B>>(
     conversation: &mut Conversation<R>,
     piece: &[u8],
@@ -172,19 +173,20 @@ fn read_on<
     }
 }
 
-/// Answers each line of a source by a board, to the end of the input, and returns how many lines had a reply; 2^64 - 1
-/// stands for more. A watcher sees each line that ended, after it was obeyed and before its reply is written, and a
-/// keeper has kept what the session has seen before its replies are sent.
+/// Answers each line of a source by a board, to the end of the input, and returns how many lines had a reply.
+///
+/// 2^64 - 1 stands for that number and more. The watcher sees each line that ended, after the line was obeyed and
+/// before its reply is written. The keeper has kept what the session has seen before replies are sent.
 ///
 /// The input is read in pieces of at most `PIECE_BYTES` bytes, and where a line is cut doesn't matter. Before each read
-/// and at the end the keeper is synced, and all replies are sent; where they are [`HeldBack`](crate::HeldBack), also
-/// wherever `PIECE_BYTES` bytes of them wait, and none is sent before. Once a sync or the sink failed, nothing more is
-/// sent. So at any end the keeper covers a state of the board that is the one after all that was shown or acknowledged.
+/// and at the end the keeper is synced, and all replies are sent. If they are [`HeldBack`](crate::HeldBack), this also
+/// happens once `PIECE_BYTES` bytes of them wait, and before the line `wait`; no reply is sent at another time.
 ///
-/// A line whose reply can't be written was carried out all the same.
+/// Once a sync or the sink failed, nothing more is sent. So at any end the keeper covers a state of the board that
+/// comes after all that was shown or acknowledged. A line whose reply can't be written was carried out all the same.
 ///
-/// Cost: O(n) in the n bytes of the input and the replies, what the board takes for each line, the room of one line and
-/// of the replies that wait, a decoder, the watcher's own, and a sync each time that replies are sent.
+/// Cost: O(n) in the n bytes of the input and the replies. In addition: what the board takes for each line, the room of
+/// one line and of the replies that wait, a decoder, the watcher's own, and a sync each time that replies are sent.
 pub fn converse<
     R: Threads + Sync,
     S: Source,
@@ -246,6 +248,7 @@ pub fn converse<
         tools: Tools {
             resources,
             decoder: Decoder::new(resources.alloc),
+            is_last: true,
         },
         session,
         answered: 0,

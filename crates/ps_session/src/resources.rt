@@ -1,12 +1,12 @@
-//! What a session works by.
+//! What a session takes threads and memory from.
 
 use std::alloc::Global;
 
-/// What a session works by: the threads that a board may start, and the memory.
+/// The threads that a board may start, and the allocator.
 #[derive_where(Clone, Copy)]
 pub struct Resources<'a, R> {
-    /// What a board starts threads by.
+    /// The source of the threads.
     pub threads: &'a R,
-    /// What memory is taken from.
+    /// The allocator.
     pub alloc: Global,
 }

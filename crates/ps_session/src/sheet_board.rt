@@ -90,6 +90,11 @@ impl<L: Ledger> Board<Meter<L>> for Sheet {
         deltas_after(alloc, self.history(), from, most)
     }
 
+    /// Returns at once: nobody else changes this sheet, so there is nothing to wait for.
+    fn wait(&mut self, _seen: u64, _is_last: bool) -> u64 {
+        self.version()
+    }
+
     fn replica(&mut self) -> u8 {
         Sheet::replica(self)
     }

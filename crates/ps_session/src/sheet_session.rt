@@ -15,13 +15,12 @@ use std::alloc::Global;
 use std::sync::ledger::Ledger;
 use std::thread::Threads;
 
-/// Answers each line of a source on a sink by a sheet, to the end of the input, and returns how many lines had a reply;
-/// 2^64 - 1 stands for more.
+/// Answers each line of a source by a sheet, to the end of the input, and returns how many lines had a reply.
 ///
-/// A line whose reply can't be written has been carried out all the same. After a fault the sheet is the one after the
-/// last line that was carried out.
+/// 2^64 - 1 stands for that number and more. A line whose reply can't be written has been carried out all the same.
+/// After a fault the sheet is the one after the last line that was carried out.
 ///
-/// Where each delta of the history has a line, as in an empty one, it stays so, and no pull is refused as too long.
+/// If each delta of the history has a line, as in an empty one, this stays so, and no pull is refused as too long.
 ///
 /// Cost: that of [`talk`].
 pub fn run<R: Threads + Sync, S: Source, K: Sink, L: Ledger>(

@@ -1,4 +1,4 @@
-//! Tells the reply to a line, to who looks on and on the sink.
+//! Puts the reply to a line on the sink, after the watcher saw it.
 ghost use Rattle.std.specs.Prelude.{◌≡◌, ◌<◌, OnErr, OnOk};
 ghost use Rattle.ps_device.specs.Device.{HoldsBack, Sends};
 ghost use Rattle.ps_lines.specs.Replies.{refusal_text, reply_text};
@@ -29,7 +29,7 @@ pub(crate) fn tell<W: Watcher, K, D: Delivery<K>>(
     D::put_reply(&reply, sink)
 }
 
-/// Tells a reply as [`tell`] does, in one place for all replies that aren't told where they are made.
+/// Puts a reply as [`tell`] does, in one place for all replies that aren't put where they are made.
 pub(crate) fn tell_other<W: Watcher, K, D: Delivery<K>>(
     line: &[u8],
     reply: Reply,

@@ -1,6 +1,7 @@
-//! A session from bytes to bytes.
+//! Answers the lines of a session.
 ghost use Rattle.std.specs.Prelude.{◌≡◌, ◌≢◌, [], ◌<◌, ◌≤◌, ◌+◌, ◌-◌, ◌^◌, ℕ, min, List, Option};
-ghost use Rattle.std.specs.Prelude.{Err, IfOk, OnOk, OnErr, ⊤, length, take};
+ghost use Rattle.std.specs.Prelude.{Err, IfOk, OnOk, OnErr, ⊤, codes, length, nat_eq, take, true};
+ghost use Rattle.std.specs.List.{starts_with};
 ghost use Rattle.std.specs.Io.KnownBytes.{Consumes, IsAtEnd};
 ghost use Rattle.ps_device.specs.Device.{HoldsBack, Sends};
 ghost use Rattle.ps_session.specs.Transcript.{Answered, Cut, Stopped, Transcribed};
@@ -22,22 +23,22 @@ use crate::telling::refuse;
 use crate::tools::Tools;
 use ps_device::{Failed, PIECE_BYTES, Sink, Source};
 use ps_grid::Refusal;
-use ps_lines::{Line, LineBuffer, Outcome, Unwatched, Watcher, trimmed};
+use ps_lines::{Line, LineBuffer, Outcome, Unwatched, WAIT, Watcher, trimmed};
 use std::alloc::Global;
 use std::thread::Threads;
 
-/// A session under way, without its board and its devices: the line that is being read, and how many lines had a reply.
+/// A session under way, without its board and its devices.
 #[derive(Drop)]
 pub(crate) struct Conversation<'a, R> {
-    /// What its lines are read and obeyed by.
+    /// What its lines are read and obeyed with.
     pub(crate) tools: Tools<'a, R>,
     /// The line that is being read.
     pub(crate) session: LineBuffer,
-    /// How many lines had a reply; 2^64 - 1 stands for more.
+    /// The number of lines that had a reply; 2^64 - 1 stands for that number and more.
     pub(crate) answered: u64,
 }
 
-/// Answers a line that isn't too long, and counts its reply; an empty one has none.
+/// Answers a line that isn't too long, and counts its reply; an empty line has none.
 fn answer_line<R: Threads + Sync, B: Board<M>, M, W: Watcher, K, D: Delivery<K>>(
     tools: &mut Tools<'_, R>,
     line: &[u8],
@@ -68,8 +69,19 @@ fn answer_line<R: Threads + Sync, B: Board<M>, M, W: Watcher, K, D: Delivery<K>>
     Ok(())
 }
 
+/// Returns whether held-back replies of `held` bytes are released before the rest of a piece is taken in.
+///
+/// This is so for `PIECE_BYTES` bytes, and if the next line waits: nobody has to wait for the replies meanwhile.
+#[inline(always)]
+fn is_to_release(held: usize, rest: &[u8]) -> bool
+    ensures some { result ≡ true → 0 < held }
+    ensures ahead { 0 < held → starts_with nat_eq rest.now (codes "wait") ≡ true → result ≡ true }
+{
+    held >= PIECE_BYTES || held > 0 && rest.starts_with(WAIT.as_bytes())
+}
+
 impl<R: Threads + Sync> Conversation<'_, R> {
-    /// Answers the line that has ended, which isn't too long; an empty one has no reply.
+    /// Answers the line that has ended, which isn't too long; an empty line has no reply.
     fn answer<B: Board<M>, M, W: Watcher, K, D: Delivery<K>>(
         &mut self,
         board: &mut B,
@@ -168,6 +180,7 @@ impl<R: Threads + Sync> Conversation<'_, R> {
             (D.waiting sink.old) (D.waiting sink.new) }
     {
         let fed = self.session.feed(piece);
+        self.tools.is_last = fed.taken == piece.len();
         match fed.line {
             Line::None => {}
             line => self.close::<B, M, W, K, D>(line, board, meter, watcher, sink)?,
@@ -201,6 +214,7 @@ impl<R: Threads + Sync> Conversation<'_, R> {
         let Some(place) = self.session.whole_line(piece) else {
             return self.turn_in_parts::<B, M, W, K, D>(piece, board, meter, watcher, sink);
         };
+        self.tools.is_last = place + 1 == piece.len();
         answer_line::<R, B, M, W, K, D>(
             &mut self.tools,
             trimmed(&piece[..place]),
@@ -213,8 +227,10 @@ impl<R: Threads + Sync> Conversation<'_, R> {
         Ok(place + 1)
     }
 
-    /// Takes in a piece, and answers each line that it ends: to its end, or until `PIECE_BYTES` bytes of replies are
-    /// held back.
+    /// Takes in a piece, and answers each line that it ends.
+    ///
+    /// It stops at the end of the piece, once `PIECE_BYTES` bytes of replies are held back, or before a line `wait` if
+    /// any are.
     pub(crate) fn serve<B: Board<M>, M, W: Watcher, K, D: Delivery<K>>(
         &mut self,
         piece: &[u8],
@@ -240,14 +256,14 @@ impl<R: Threads + Sync> Conversation<'_, R> {
         let mut start = 0;
         'turns: while start < piece.len() {
             start += self.turn::<B, M, W, K, D>(&piece[start..], board, meter, watcher, sink)?;
-            if D::waits(sink) >= PIECE_BYTES {
+            if is_to_release(D::waits(sink), &piece[start..]) {
                 return Ok(start);
             }
         }
         Ok(start)
     }
 
-    /// At the end of the input: answers what remains, if it is a line.
+    /// Answers what remains at the end of the input, if it is a line.
     pub(crate) fn finish<B: Board<M>, M, W: Watcher, K, D: Delivery<K>>(
         &mut self,
         board: &mut B,
@@ -270,6 +286,8 @@ impl<R: Threads + Sync> Conversation<'_, R> {
         ensures held { D.holds_back → HoldsBack (D.contents sink.old) (D.contents sink.new)
             (D.waiting sink.old) (D.waiting sink.new) }
     {
+        // nothing more is read, so nobody has to wait
+        self.tools.is_last = false;
         match self.session.end() {
             Line::None => {}
             line => self.close::<B, M, W, K, D>(line, board, meter, watcher, sink)?,
@@ -281,21 +299,20 @@ impl<R: Threads + Sync> Conversation<'_, R> {
 /// Why a session ended before the end of its input.
 #[derive(Clone, Copy, PartialEq, Eq)]
 pub enum RunFault {
-    /// There was no room for a line; nothing was read.
+    /// There was no memory for the room of a line; nothing was read.
     Memory,
     /// The source failed.
     Source,
     /// The sink failed.
     Sink,
-    /// What the session has seen couldn't be kept; nothing more is handed on.
+    /// What the session has seen couldn't be kept; nothing more is sent.
     Keep,
 }
 
-/// Answers each line of a source on a sink, to the end of the input, and returns how many lines had a reply; 2^64 - 1
-/// stands for more.
+/// Answers each line of a source on a sink, to the end of the input, and returns how many lines had a reply.
 ///
-/// It is [`converse`] with nobody who observes or keeps anything. The sink may send replies as they come; before each
-/// read, and at the end, all are sent.
+/// 2^64 - 1 stands for that number and more. It is [`converse`] without watcher and keeper. The sink may send replies
+/// as they come; before each read, and at the end, all are sent.
 ///
 /// Cost: that of [`converse`].
 pub fn talk<R: Threads + Sync, S: Source, B: Board<M>, M, K: Sink>(

@@ -1,7 +1,10 @@
 -- Deltas that follow the history of a sheet, and are accepted together.
-use Rattle.std.specs.Prelude.{◌≡◌, Bool, true, false, List, [], ◌∷◌, ◌++◌}
+use Rattle.std.specs.Prelude.{◌≡◌, ℕ, Bool, true, false, List, [], ◌∷◌, ◌++◌}
+use Rattle.std.specs.Result.{IsOkAnd}
 use Rattle.ps_delta.specs.State.{Blocks, IsBelow, state_at}
 use Rattle.ps_delta.specs.Deltas.{Entries, state_of, joined_history}
+use Rattle.ps_delta.specs.declared.edit.Edit.{Edit}
+use Rattle.ps_sheet.specs.Edits.{delta_of_edit}
 use Rattle.ps_sheet.specs.Sheet.{IsFresh}
 
 -- the deltas, and a grid that holds the join of the history and of them
@@ -20,3 +23,9 @@ abbrev pub IsTakenIn : List Entries → ArrivalsView → ArrivalsView → Entrie
 IsTakenIn h x y d true =
     (¬ IsBelow (state_of d) (joined_history (h ++ x.deltas))) × (y.deltas ≡ x.deltas ++ d ∷ [])
 IsTakenIn h x y d false = IsBelow (state_of d) (joined_history (h ++ x.deltas)) × (y ≡ x)
+
+-- MADE: to the arrivals x, after the history h, the delta of an edit at replica r was added as the last one; y is what
+-- they are then
+abbrev pub IsMade : ℕ → List Entries → ArrivalsView → Edit → ArrivalsView → Type 0
+IsMade r h x edit y =
+    IsOkAnd (delta_of_edit r (joined_history (h ++ x.deltas)) edit) (λ d. y.deltas ≡ x.deltas ++ d ∷ [])

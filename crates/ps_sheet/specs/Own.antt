@@ -31,7 +31,7 @@ is_counted_in count other =
 abbrev pub has_count : ℕ → List (ℕ × Count) → ℕ × Count → Bool
 has_count replica counts count = not (count.0 == replica) || list_any (is_counted_in count) counts
 
--- the pairs have that of the replica, be it removed or not
+-- the pairs have that of the replica, removed or not
 abbrev pub has_pair : ℕ → List (Pair × Bool) → Pair × Bool → Bool
 has_pair replica pairs pair = not (pair.0.replica == replica) || is_some (map.find pair_cmp pair.0 pairs)
 

@@ -18,9 +18,9 @@ use Rattle.ps_sheet.specs.declared.sheet.Report.{Report}
 use Rattle.ps_delta.specs.declared.edit.Change.{Change}
 use Rattle.ps_delta.specs.declared.edit.Change.TheVariants.{Edit, Delta, Merge}
 
--- the sheet's replica and history before the change, the change's delta, whether it is to be appended, what each cell
--- shows after the change, with what some showed before it, which cells show another value, the report, and the number
--- of workers
+-- the sheet's replica and history before the change; the change's delta, and whether it is to be appended; what each
+-- cell shows after the change, and what some showed before it; the cells that show another value, with it; the report;
+-- and the number of workers
 pub record PreparedView : Type 0 where
   pub replica : ℕ
   pub history : List Entries

@@ -1,26 +1,29 @@
 //! Deltas that a sheet accepts together.
 
-ghost use Rattle.std.specs.Prelude.{◌≡◌, [], List, IfOk, IfErr, OnErr};
-ghost use Rattle.ps_delta.specs.Deltas.{Entries};
-ghost use Rattle.ps_sheet.specs.Arrivals.{Follow, IsTakenIn};
+ghost use Rattle.std.specs.Prelude.{◌≡◌, ◌≤◌, ◌⊎◌, ◌↔◌, ◌++◌, [], List, true, Err};
+ghost use Rattle.std.specs.Prelude.{IfOk, IfErr, IsErrOf, IsOk, OnErr, OnOk};
+ghost use Rattle.ps_delta.specs.Deltas.{Entries, joined_history};
+ghost use Rattle.ps_sheet.specs.Arrivals.{Follow, IsMade, IsTakenIn};
+ghost use Rattle.ps_sheet.specs.Edits.{delta_of_edit};
 ghost use Rattle.ps_sheet.specs.Sheet.{IsSheet};
 
+use crate::edit_delta::delta_of;
 use crate::sheet::Sheet;
-use ps_delta::{Delta, Grid};
-use ps_grid::Refusal;
+use ps_delta::{Delta, Edit, Grid};
+use ps_grid::{REPLICAS, Refusal};
 use ps_lattice::Join;
 use std::alloc::Global;
 use std::marker::Model;
 
 /// Deltas that follow the history of a sheet. Each adds something to the join of the history and of those before it.
 ///
-/// They are joined as they come. Nothing is evaluated until the sheet accepts all of them, by [`Sheet::receive_all`].
-/// A contract sees them as their `ArrivalsView`.
+/// They are joined as they come. Nothing is evaluated until the sheet accepts all of them, by [`Sheet::receive_all`]. A
+/// contract sees them as their `ArrivalsView`.
 #[derive(Drop)]
 pub struct Arrivals {
-    /// The deltas, in the order in which they came.
+    /// the deltas, in the order in which they came
     pub(crate) deltas: Vec<Delta>,
-    /// The join of the sheet's history and of the deltas.
+    /// the join of the sheet's history and of the deltas
     pub(crate) grid: Grid,
 }
 
@@ -39,9 +42,9 @@ impl Model for Arrivals {
 impl Arrivals {
     /// Creates an empty list of arrivals, after the history of a sheet.
     ///
-    /// Refused only when out of memory.
+    /// Fails only when out of memory.
     ///
-    /// Cost: the blocks of the grid, and the 64 cells of each block of which the sheet ever changed a cell.
+    /// Cost: the blocks of the grid, and the 64 cells of each block in which the sheet ever changed a cell.
     pub fn after(alloc: Global, sheet: &Sheet) -> Result<Arrivals, Refusal>
         ensures none { IfOk result (λ a. a.deltas ≡ []) }
         ensures follow { IfOk result (Follow sheet.now.history) }
@@ -58,10 +61,10 @@ impl Arrivals {
         })
     }
 
-    /// Adds a delta after those before it, and returns true. Where it is below their join, returns false and adds
-    /// nothing.
+    /// Adds a delta after those before it, and returns true. A delta below their join isn't added, and the result is
+    /// false.
     ///
-    /// Refused only when out of memory, and then the list is as before.
+    /// Fails only when out of memory, and then the list is as before.
     ///
     /// Cost: as of [`Grid::join`].
     pub fn receive(&mut self, alloc: Global, delta: Delta) -> Result<bool, Refusal>
@@ -78,5 +81,36 @@ impl Arrivals {
         self.grid.join(alloc, &delta)?;
         self.deltas.push_reserved(delta);
         Ok(true)
+    }
+
+    /// Returns whether there are none.
+    pub fn is_empty(&self) -> bool
+        ensures { (result ≡ true) ↔ (self.now.deltas ≡ []) }
+    {
+        self.deltas.is_empty()
+    }
+
+    /// Makes the delta of an edit at a replica, over the join of the history and of the arrivals, and adds it after
+    /// them.
+    ///
+    /// Fails as [`Sheet::edit`] does, over that join, and when out of memory. Then the list is as before.
+    ///
+    /// Cost: that of the delta, and as of [`Grid::join`].
+    pub fn edit(&mut self, alloc: Global, replica: u8, edit: Edit) -> Result<(), Refusal>
+        requires replica { (1 ≤ replica) × (replica ≤ REPLICAS) }
+        ensures made { OnOk result ((h : List Entries) → Follow h self.old
+            → IsMade replica h self.old edit self.new) }
+        ensures follow { (h : List Entries) → Follow h self.old → Follow h self.new }
+        ensures kept { OnErr result (self.new.deltas ≡ self.old.deltas) }
+        ensures refused { IfErr result (λ e. (e ≡ Refusal.Memory) ⊎ ((h : List Entries) → Follow h self.old
+            → delta_of_edit replica (joined_history (h ++ self.old.deltas)) edit ≡ Err e)) }
+        ensures asked { IsErrOf result Refusal.Memory → (h : List Entries) → Follow h self.old
+            → IsOk (delta_of_edit replica (joined_history (h ++ self.old.deltas)) edit) }
+    {
+        let delta = delta_of(alloc, &self.grid, replica, edit)?;
+        self.deltas.reserve(1)?;
+        self.grid.join(alloc, &delta)?;
+        self.deltas.push_reserved(delta);
+        Ok(())
     }
 }

@@ -55,7 +55,8 @@ pub(crate) fn delta_of(
 }
 
 /// The delta of putting an option into the set of a cell.
-// Not inlined, as `unchosen` and `all_assigned` aren't: more common edits don't clear the room that these want.
+// Not inlined, and neither are `unchosen` and `all_assigned`: so more common edits don't clear the room that these
+// need.
 #[inline(never)]
 fn chosen(
     alloc: Global,
@@ -91,7 +92,7 @@ fn unchosen(
     Ok(Delta::of_filled(cell, with_choice(alloc, choice)))
 }
 
-/// The delta of giving cells their contents. All clocks are looked at before anything is allocated.
+/// The delta of giving cells their contents. All clocks are checked before anything is allocated.
 #[inline(never)]
 fn all_assigned(
     alloc: Global,
@@ -124,7 +125,7 @@ fn is_any_full(grid: &Grid, cells: &[(Cell, Content)]) -> bool
     cells.iter().any(|entry| is_clock_full(grid.at(entry.0)))
 }
 
-/// Refused where the amount is out of range, or the cell's register doesn't hold a counter.
+/// Refuses an amount that is out of range, and a cell whose register doesn't hold a counter.
 fn check_tally(state: &CellState, amount: u64) -> Result<(), Refusal>
     ensures { result ≡ (if is_amount amount
         then (if holds_tally (content_of state.now) then Ok tt else Err Refusal.NotTally)
@@ -139,7 +140,7 @@ fn check_tally(state: &CellState, amount: u64) -> Result<(), Refusal>
     }
 }
 
-/// Refused where the option is out of range, or the cell's register doesn't hold a set.
+/// Refuses an option that is out of range, and a cell whose register doesn't hold a set.
 fn check_choice(state: &CellState, option: u64) -> Result<(), Refusal>
     ensures { result ≡ (if nat_le OPTIONS option
         then Err Refusal.OptionRange

@@ -1,4 +1,4 @@
-//! Laws of settled values.
+//! Laws of settled values. Each is a function that does nothing, and its contract is the law.
 
 ghost use Rattle.std.specs.Prelude.{◌≡◌};
 ghost use Rattle.ps_shown.specs.Shown.{shown_at};
@@ -10,52 +10,38 @@ ghost use Rattle.ps_cells.specs.Settled.{SettledAtLeastOnce, SettledAtMostOnce};
 
 use crate::sheet::Sheet;
 
-/// A state of the grid has at most one settled assignment of values to cells.
-///
-/// Cost: none.
+/// States that a state of the grid has at most one settled assignment of values to cells.
 pub fn settled_at_most_once()
     ensures { SettledAtMostOnce }
 {}
 
-/// A state of the grid has a settled assignment of values to cells.
-///
-/// Cost: none.
+/// States that a state of the grid has a settled assignment of values to cells.
 pub fn settled_at_least_once()
     ensures { SettledAtLeastOnce }
 {}
 
-/// Of two states, a cell shows the same outside the region of the cells where they differ.
-///
-/// Cost: none.
+/// States that a cell shows the same in two states if it is outside the region of the cells where they differ.
 pub fn cells_outside_show_the_same()
     ensures { OutsideShowsTheSame }
 {}
 
-/// A formula cell of that region shows the same where it reaches no cycle, isn't one of these cells, and refers to no
-/// cell that shows another value.
-///
-/// Cost: none.
+/// States when a formula cell of that region shows the same in both states. It reaches no cycle, the states don't
+/// differ there, and it refers to no cell that shows another value.
 pub fn quiet_cells_show_the_same()
     ensures { QuietShowsTheSame }
 {}
 
-/// A delta that an edit makes over a state is not below it: an edit that isn't refused always changes the state.
-///
-/// Cost: none.
+/// States that a delta that an edit makes over a state is not below it: an accepted edit always changes the state.
 pub fn edits_are_fresh()
     ensures { EditsAreFresh }
 {}
 
-/// A run of accepted deltas joins to the joined history, whether each was appended or was below the state.
-///
-/// Cost: none.
+/// States that a run of accepted deltas joins to the joined history, whether each was appended or was below the state.
 pub fn accepted_deltas_join()
     ensures { AcceptedDeltasJoin }
 {}
 
-/// Two sheets that accepted the same deltas, in whatever order and however often, show the same values.
-///
-/// Cost: none.
+/// States that two sheets that accepted the same deltas, in whatever order and however often, show the same values.
 pub fn same_deltas_show_the_same(a: &Sheet, b: &Sheet)
     requires { TookTheSame a.now.history b.now.history }
     ensures { shown_at a.now.shown ≡ shown_at b.now.shown }
@@ -63,9 +49,8 @@ pub fn same_deltas_show_the_same(a: &Sheet, b: &Sheet)
     same_join_shows_the_same(a, b)
 }
 
-/// Two sheets whose histories have the same join show the same values, whatever their replicas and histories.
-///
-/// Cost: none.
+/// States that two sheets whose histories have the same join show the same values, whatever their replicas and
+/// histories.
 pub fn same_join_shows_the_same(a: &Sheet, b: &Sheet)
     requires { joined_history a.now.history ≡ joined_history b.now.history }
     ensures { shown_at a.now.shown ≡ shown_at b.now.shown }

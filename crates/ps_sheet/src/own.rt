@@ -1,4 +1,4 @@
-//! Whether a state has what a replica made.
+//! Whether a state has everything that a replica made.
 
 ghost use Rattle.std.specs.Prelude.{◌≡◌, IsTrue, is_some, true};
 ghost use Rattle.std.specs.Option.{option_map_or};
@@ -21,7 +21,7 @@ use ps_content::Content;
 use ps_delta::{CellState, Delta, Grid};
 use ps_lattice::{Assignment, Count, Pair, Register};
 
-/// Whether a grid has all that a replica made of a delta.
+/// Whether a grid has everything in a delta that a replica made.
 ///
 /// Cost: for each cell of the delta its counts, each with a walk over those of the cell, and its pairs, each with a
 /// search among those of the cell.
@@ -34,7 +34,7 @@ pub(crate) fn has_own(grid: &Grid, delta: &Delta, replica: u8) -> bool
         .all(|part| has_own_of_cell(grid.at(part.0), &part.1, replica))
 }
 
-/// Whether a cell has all that a replica made of another state of it.
+/// Whether a cell has everything that a replica made in another state of it.
 fn has_own_of_cell(state: &CellState, part: &CellState, replica: u8) -> bool
     ensures { result ≡ has_own_of_cell replica state.now part.now }
 {
@@ -70,7 +70,7 @@ fn is_at_most(made: &Assignment<&Content>, held: &Assignment<&Content>) -> bool
         .is_le()
 }
 
-/// Whether counts have all of other ones that are a replica's, or greater ones.
+/// Whether `counts` has each count of the replica in `part`, or a greater one.
 fn has_counts(counts: &[(u8, Count)], part: &[(u8, Count)], replica: u8) -> bool
     ensures { result ≡ list_all (has_count replica counts.now) part.now }
 {
@@ -78,7 +78,7 @@ fn has_counts(counts: &[(u8, Count)], part: &[(u8, Count)], replica: u8) -> bool
         .all(|made| made.0 != replica || is_counted(counts, made))
 }
 
-/// Whether one of these counts is the replica's of that count, and not less.
+/// Whether one of `counts` is of the same replica as `made`, and not less.
 fn is_counted(counts: &[(u8, Count)], made: &(u8, Count)) -> bool
     ensures { result ≡ list_any (is_counted_in made.now) counts.now }
 {
@@ -87,7 +87,7 @@ fn is_counted(counts: &[(u8, Count)], made: &(u8, Count)) -> bool
     })
 }
 
-/// Whether pairs have all of other ones that a replica made.
+/// Whether `pairs` has each pair of `part` that the replica made.
 fn has_pairs(pairs: &[(Pair, bool)], part: &[(Pair, bool)], replica: u8) -> bool
     requires { IsTrue (map.is_sorted pair_cmp pairs.now) }
     ensures { result ≡ list_all (has_pair replica pairs.now) part.now }

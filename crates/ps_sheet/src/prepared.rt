@@ -22,15 +22,15 @@ use std::marker::Model;
 use std::sync::ledger::Ledger;
 use std::thread::Threads;
 
-/// A change of a sheet that is worked out, and not yet made. It has the sheet, and is ended by [`Prepared::commit`] or
+/// A change of a sheet that is worked out, and not yet made. It owns the sheet, and is ended by [`Prepared::commit`] or
 /// [`Prepared::cancel`].
 ///
-/// It is part of the public interface, for whoever wants to see a change before it is made, and can give the sheet away
-/// meanwhile. The program has none: it edits, receives, and stages in place, by a `Staging`.
+/// It is part of the public interface, for callers that want to see a change before it is made, and can give the sheet
+/// away meanwhile. The program doesn't use it: it edits, receives, and stages in place, by a `Staging`.
 ///
 /// A contract sees it as its `PreparedView`.
 pub struct Prepared {
-    /// in which the change is staged
+    /// the sheet, with the change staged
     staging: Staging,
 }
 
@@ -51,15 +51,14 @@ impl Model for Prepared {
 }
 
 impl Sheet {
-    /// Works out a change, after every growth that it needs. A delta below the state changes nothing, and is prepared
+    /// Works out a change, after allocating all that it needs. A delta below the state changes nothing, and is prepared
     /// as one that isn't fresh. The formulas are evaluated and counted here, whether the change is then made or given
     /// up.
     ///
-    /// Nothing in the program calls it: that edits and receives, and stages in place. It is part of the public
-    /// interface, for whoever wants to see a change before it is made.
+    /// Nothing in the program calls it: the program edits, receives, and stages in place. It is part of the public
+    /// interface, for callers that want to see a change before it is made.
     ///
-    /// Refused as [`Sheet::edit`], [`Sheet::receive`] or [`Sheet::merge`] would be, and then the sheet comes back as it
-    /// was.
+    /// Fails as [`Sheet::edit`], [`Sheet::receive`] or [`Sheet::merge`] would, and then the sheet comes back as it was.
     ///
     /// Cost: that of [`Sheet::edit`], [`Sheet::receive`] or [`Sheet::merge`], and of sorting the cells that show
     /// another value.
@@ -86,8 +85,10 @@ impl Sheet {
         self.prepare_by(rt, &Open, alloc, change, meter)
     }
 
-    /// The same, with a gate that each worker passes before each of its evaluations. It is part of the public interface
-    /// as [`Sheet::prepare`] is.
+    /// Works out a change as [`Sheet::prepare`] does, with a gate that each worker passes before each of its
+    /// evaluations.
+    ///
+    /// It is part of the public interface, as [`Sheet::prepare`] is.
     ///
     /// Cost: that of [`Sheet::prepare`], and of the gate.
     pub fn prepare_by<R: Threads + Sync, G: Gate, L: Ledger>(
@@ -131,9 +132,7 @@ impl Prepared {
         Prepared { staging }
     }
 
-    /// The change's delta.
-    ///
-    /// Cost: constant.
+    /// Returns the change's delta.
     pub fn delta(&self) -> &Delta
         ensures delta { result.now ≡ self.now.delta }
         ensures prepared { IsPrepared self.now }
@@ -141,9 +140,7 @@ impl Prepared {
         self.staging.delta()
     }
 
-    /// Whether the delta isn't below the state, so that it is to be appended to the history.
-    ///
-    /// Cost: constant.
+    /// Returns whether the delta isn't below the state, so that it is to be appended to the history.
     pub fn fresh(&self) -> bool
         ensures fresh { result ≡ self.now.fresh }
         ensures prepared { IsPrepared self.now }
@@ -151,9 +148,7 @@ impl Prepared {
         self.staging.fresh()
     }
 
-    /// Each cell whose shown value the change makes another one, with the new value; ascending.
-    ///
-    /// Cost: constant.
+    /// Returns each cell whose shown value the change alters, with the new value; ascending.
     pub fn changes(&self) -> &[(Cell, Value)]
         ensures changes { result.now ≡ self.now.changes }
         ensures prepared { IsPrepared self.now }
@@ -161,9 +156,7 @@ impl Prepared {
         self.staging.changes()
     }
 
-    /// What each cell shows after the change.
-    ///
-    /// Cost: constant.
+    /// Returns what each cell shows after the change.
     pub fn shown_after(&self) -> &Shown
         ensures shown { shown_at result.now ≡ shown_after self.now }
         ensures prepared { IsPrepared self.now }
@@ -171,9 +164,7 @@ impl Prepared {
         self.staging.all_shown()
     }
 
-    /// The report of the change.
-    ///
-    /// Cost: constant.
+    /// Returns the report of the change.
     pub fn report(&self) -> Report
         ensures report { result ≡ self.now.report }
         ensures prepared { IsPrepared self.now }
@@ -181,7 +172,7 @@ impl Prepared {
         self.staging.report()
     }
 
-    /// Makes the change. It takes no memory.
+    /// Makes the change, and returns the sheet and the report. It takes no memory.
     ///
     /// Cost: the touched cells with their references, and the cells that were put.
     pub fn commit(self) -> (Sheet, Report)
@@ -196,7 +187,7 @@ impl Prepared {
         (Sheet { staging }, report)
     }
 
-    /// Gives up the change: the sheet has its replica, its history and what it showed. It takes no memory.
+    /// Gives up the change, and returns the sheet with its replica, its history and what it showed. It takes no memory.
     ///
     /// Cost: the touched cells with their references, the cells that were put, and those that showed `#CYCLE!`.
     pub fn cancel(self) -> Sheet

@@ -31,7 +31,7 @@ use std::marker::Model;
 use std::sync::ledger::Ledger;
 use std::thread::Threads;
 
-/// What an accepted change did: what the history came to, and the work that it was (`ps_cells::Work`).
+/// What an accepted change did: the length of the history after it, and the work that it was (`ps_cells::Work`).
 #[derive(Clone, Copy, Debug, PartialEq, Eq)]
 pub struct Report {
     /// The length of the history.
@@ -45,7 +45,7 @@ pub struct Report {
 }
 
 impl Report {
-    /// The report of this work, after which the history has this length.
+    /// The report of this work, with the length of the history after it.
     #[inline(always)]
     pub(crate) fn of(version: u64, work: Work) -> Report
         ensures { result ≡ report_of version work }
@@ -64,7 +64,7 @@ impl Report {
 /// A contract sees it as its `SheetView`.
 #[derive(Drop)]
 pub struct Sheet {
-    /// in which nothing is staged
+    /// the history and the cells, with nothing staged
     pub(crate) staging: Staging,
 }
 
@@ -103,10 +103,10 @@ impl Sheet {
     ghost use Rattle.ps_sheet.specs.Edits.{delta_of_edit};
     ghost use Rattle.ps_sheet.specs.Sheet.{IsSheet, Takes};
 
-    /// The empty sheet of a replica, 1 to 32, among whose workers, 1 to `WORKERS`, the formulas of a wide level are
-    /// divided.
+    /// Creates the empty sheet of a replica, 1 to 32. `workers`, 1 to `WORKERS`, is how many share the formulas of a
+    /// wide level.
     ///
-    /// Refused where the replica is out of range, and where memory runs out.
+    /// Fails if the replica is out of range, or when out of memory.
     ///
     /// Cost: linear in the cells of the grid.
     pub fn open(alloc: Global, replica: u8, workers: usize) -> Result<Sheet, Refusal>
@@ -127,13 +127,18 @@ impl Sheet {
 
     /// Makes the delta of an edit at the sheet's replica, over its state, and appends it to the history.
     ///
-    /// Refused by the first of these that holds: the amount or the option is out of range; the cell holds no counter or
-    /// no set; the count is full, the sequences are used up, the option isn't in the set, or a register has the last
-    /// time. Where none of them holds, only out of memory. Then nothing is changed.
+    /// # Errors
+    ///
+    /// Returns the first of these that holds, and changes nothing:
+    ///
+    /// - The amount or the option is out of range.
+    /// - The cell holds no counter or no set.
+    /// - The count is full, the sequences are used up, the option isn't in the set, or a register has the last time.
+    /// - Allocation fails.
     ///
     /// Cost: that of the delta and its join, and of the region: its cells, their references, and the evaluations that
     /// the report counts, which the workers of a wide level share.
-    // Inlined, as what reads a line has the edit at hand, and needs no more of the report than its version.
+    // Inlined: the caller that reads a line has the edit at hand, and needs only the report's version.
     #[inline(always)]
     pub fn edit<R: Threads + Sync, L: Ledger>(
         &mut self,
@@ -167,9 +172,9 @@ impl Sheet {
 
     /// Accepts a delta made elsewhere: appends it to the history, unless it is below the state already.
     ///
-    /// Refused only where it would be appended, out of memory, and then nothing is changed.
+    /// Fails only if it would be appended, when out of memory, and then nothing is changed.
     ///
-    /// Cost: that of joining the delta, and where it is appended, of the region as for an edit.
+    /// Cost: that of joining the delta. If it is appended, also that of the region, as for an edit.
     pub fn receive<R: Threads + Sync, L: Ledger>(
         &mut self,
         rt: &R,
@@ -198,13 +203,15 @@ impl Sheet {
         self.change(rt, alloc, Change::Delta(delta), meter)
     }
 
-    /// Merges a delta made elsewhere: appends to the history only what is new of it, the least delta that does to the
-    /// state what the whole delta would. Where nothing is new, all stays, and so does the version that the report has.
+    /// Merges a delta made elsewhere: appends to the history only what is new in it.
     ///
-    /// Refused only where something is new, out of memory, and then nothing is changed.
+    /// What is new is the least delta that does to the state what the whole delta would. If nothing is new, all stays,
+    /// and so does the version in the report.
     ///
-    /// Cost: for each cell of the delta its counts and pairs, each with a search among those that the cell has here;
-    /// and where something is new, that of joining it, and of the region as for an edit.
+    /// Fails only if something is new, when out of memory, and then nothing is changed.
+    ///
+    /// Cost: for each cell of the delta its counts and pairs, each with a search among those that the cell has here. If
+    /// something is new, also that of joining it, and of the region as for an edit.
     pub fn merge<R: Threads + Sync, L: Ledger>(
         &mut self,
         rt: &R,
@@ -271,9 +278,7 @@ impl Sheet {
         }
     }
 
-    /// What a cell shows.
-    ///
-    /// Cost: constant.
+    /// Returns what a cell shows.
     pub fn shown(&self, cell: Cell) -> Value
         ensures value { result ≡ shown_at self.now.shown cell }
         ensures cycle { (result ≡ Value.Err Fault.Cycle) ↔ Cyclic (joined_history self.now.history) cell }
@@ -282,9 +287,7 @@ impl Sheet {
         self.staging.all_shown().at(cell)
     }
 
-    /// What each cell shows.
-    ///
-    /// Cost: constant.
+    /// Returns what each cell shows.
     pub fn all_shown(&self) -> &Shown
         ensures shown { shown_at result.now ≡ shown_at self.now.shown }
         ensures sheet { IsSheet self.now }
@@ -292,9 +295,7 @@ impl Sheet {
         self.staging.all_shown()
     }
 
-    /// Whether the cell's register has the last time, so that no edit can give the cell a content any more.
-    ///
-    /// Cost: constant.
+    /// Returns whether the cell's register has the last time, so that no edit can give the cell a content any more.
     pub fn is_clock_full(&self, cell: Cell) -> bool
         ensures full { result ≡ is_clock_full (joined_history self.now.history cell) }
         ensures sheet { IsSheet self.now }
@@ -302,9 +303,7 @@ impl Sheet {
         self.staging.is_clock_full(cell)
     }
 
-    /// What the cell's register holds; none where nothing was assigned to it.
-    ///
-    /// Cost: constant.
+    /// Returns what the cell's register holds; none if nothing was assigned to it.
     pub fn content(&self, cell: Cell) -> Option<&Content>
         ensures held { option_copied result
             ≡ option_map (λ a. a.content) (joined_history self.now.history cell).register }
@@ -313,11 +312,11 @@ impl Sheet {
         self.staging.content(cell)
     }
 
-    /// Whether the state has all of a delta that the own replica made. Where it hasn't, the replica's number is used
-    /// elsewhere, too, or changes of its own were lost.
+    /// Returns whether the state has everything in a delta that the sheet's own replica made. If it hasn't, the
+    /// replica's number is used elsewhere too, or changes of its own were lost. It takes no memory.
     ///
-    /// Cost: for each cell of the delta its counts, each with a walk over those that the cell has here, and its pairs,
-    /// each with a search among those that the cell has here; no memory.
+    /// Cost: for each cell of the delta its counts, each with a walk over those that the cell has here. Also its pairs,
+    /// each with a search among those that the cell has here.
     pub fn has_own(&self, delta: &Delta) -> bool
         ensures own { result ≡ has_own self.now.replica (joined_history self.now.history) delta.now }
         ensures sheet { IsSheet self.now }
@@ -325,9 +324,7 @@ impl Sheet {
         self.staging.has_own(delta)
     }
 
-    /// The accepted deltas that changed the state, in the order in which they came.
-    ///
-    /// Cost: constant.
+    /// Returns the accepted deltas that changed the state, in the order in which they came.
     pub fn history(&self) -> &[Delta]
         ensures history { result.now ≡ self.now.history }
         ensures sheet { IsSheet self.now }
@@ -335,9 +332,7 @@ impl Sheet {
         self.staging.history()
     }
 
-    /// The length of the history.
-    ///
-    /// Cost: constant.
+    /// Returns the length of the history.
     pub fn version(&self) -> u64
         ensures version { result ≡ length self.now.history }
         ensures sheet { IsSheet self.now }
@@ -345,9 +340,7 @@ impl Sheet {
         self.staging.version()
     }
 
-    /// The replica that the sheet was opened with.
-    ///
-    /// Cost: constant.
+    /// Returns the replica that the sheet was opened with.
     pub fn replica(&self) -> u8
         ensures replica { result ≡ self.now.replica }
         ensures sheet { IsSheet self.now }
@@ -361,7 +354,7 @@ impl Sheet {
 
     /// Appends deltas that follow the history, in their order, and settles what the cells show once, after the last.
     ///
-    /// Refused only when out of memory, and then the sheet is as before.
+    /// Fails only when out of memory, and then the sheet is as before.
     ///
     /// Cost: as of [`ps_delta::Grid::entries`], and the region of all deltas as one change.
     pub fn receive_all<R: Threads + Sync, L: Ledger>(

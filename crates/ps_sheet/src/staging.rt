@@ -37,18 +37,18 @@ use std::marker::Model;
 use std::sync::ledger::Ledger;
 use std::thread::Threads;
 
-/// A sheet in which a change may be staged: worked out, and not yet made. It is then committed or cancelled, and the
-/// next one may be staged.
+/// A sheet in which a change may be staged: worked out, and not yet made. The change is then committed or cancelled,
+/// and the next one may be staged.
 ///
 /// A contract sees it as its `StagingView`.
 #[derive(Drop)]
 pub struct Staging {
     replica: u8,
-    /// the accepted deltas that changed the state, without that of the staged change, for which there is room
+    /// the accepted deltas that changed the state, without that of the staged change, which has room after them
     history: Vec<Delta>,
-    /// what follows from them and from the staged change
+    /// the cells that follow from them and from the staged change
     cells: Cells,
-    /// the staged change; where its delta is below the state, nothing is staged in the cells
+    /// the staged change; if its delta is below the state, nothing is staged in the cells
     staged: Option<Staged>,
 }
 
@@ -78,7 +78,7 @@ impl Model for Staging {
 impl Staging {
     /// The empty sheet of a replica.
     ///
-    /// Refused only when out of memory.
+    /// Fails only when out of memory.
     pub(crate) fn open(alloc: Global, replica: u8, workers: usize) -> Result<Staging, Refusal>
         requires workers { (1 ≤ workers) × (workers ≤ WORKERS) }
         requires replica { (1 ≤ replica) × (replica ≤ REPLICAS) }
@@ -96,9 +96,7 @@ impl Staging {
         })
     }
 
-    /// The sheet, so that changes may be staged in it.
-    ///
-    /// Cost: none.
+    /// Takes a sheet, so that changes may be staged in it.
     pub fn new(sheet: Sheet) -> Staging
         ensures staging { result ≡ staging_of sheet }
         ensures sheet { IsSheet sheet }
@@ -109,9 +107,7 @@ impl Staging {
         staging
     }
 
-    /// The sheet, where nothing is staged.
-    ///
-    /// Cost: none.
+    /// Returns the sheet, while nothing is staged.
     pub fn into_sheet(self) -> Sheet
         requires none { self.staged ≡ None }
         ensures same { result ≡ sheet_of self }
@@ -122,11 +118,13 @@ impl Staging {
         Sheet { staging: self }
     }
 
-    /// Works out a change, after every growth that it needs. A delta below the state changes nothing, and is staged as
-    /// one that isn't fresh. Each worker passes the gate before each of its evaluations; the formulas are evaluated and
-    /// counted here, whether the change is then committed or cancelled.
+    /// Works out a change, after allocating all that it needs. A delta below the state changes nothing, and is staged
+    /// as one that isn't fresh.
     ///
-    /// Refused as [`Sheet::edit`], [`Sheet::receive`] or [`Sheet::merge`] would be, and then nothing is staged.
+    /// Each worker passes the gate before each of its evaluations. The formulas are evaluated and counted here, whether
+    /// the change is then committed or cancelled.
+    ///
+    /// Fails as [`Sheet::edit`], [`Sheet::receive`] or [`Sheet::merge`] would, and then nothing is staged.
     ///
     /// Cost: that of [`Sheet::edit`], [`Sheet::receive`] or [`Sheet::merge`], and of the gate.
     #[inline(always)]
@@ -193,7 +191,7 @@ impl Staging {
         self.stage_fresh(rt, gate, alloc, delta, meter)
     }
 
-    /// Stages what is new of a delta; where nothing is, the delta, which changes nothing.
+    /// Stages what is new in a delta. If nothing is, it stages the delta, which changes nothing.
     fn stage_merge<R: Threads + Sync, G: Gate, L: Ledger>(
         &mut self,
         rt: &R,
@@ -282,7 +280,7 @@ impl Staging {
         self.cells.grid().covers(delta)
     }
 
-    /// What is new of a delta; none where it is below the state.
+    /// What is new in a delta; none if it is below the state.
     fn news(&self, alloc: Global, delta: &Delta) -> Result<Option<Delta>, Refusal>
         requires none { self.now.staged ≡ None }
         ensures news { IfOk result (λ o. IfSome o (IsNewsDelta (joined_history self.now.history) delta.now)) }
@@ -303,9 +301,7 @@ impl Staging {
         contents::is_clock_full(self.cells.grid().at(cell))
     }
 
-    /// What the cell's register holds, where nothing is staged; none where nothing was assigned to it.
-    ///
-    /// Cost: constant.
+    /// Returns what the cell's register holds, while nothing is staged; none if nothing was assigned to it.
     pub fn content(&self, cell: Cell) -> Option<&Content>
         requires none { self.now.staged ≡ None }
         ensures held { option_copied result
@@ -315,11 +311,11 @@ impl Staging {
         content(self.cells.grid().at(cell))
     }
 
-    /// Whether the state has all of a delta that the own replica made, where nothing is staged. Where it hasn't, the
-    /// replica's number is used elsewhere, too, or changes of its own were lost.
+    /// Returns whether the state has everything in a delta that the sheet's own replica made, while nothing is staged.
+    /// If it hasn't, the replica's number is used elsewhere too, or changes of its own were lost. It takes no memory.
     ///
-    /// Cost: for each cell of the delta its counts, each with a walk over those that the cell has here, and its pairs,
-    /// each with a search among those that the cell has here; no memory.
+    /// Cost: for each cell of the delta its counts, each with a walk over those that the cell has here. Also its pairs,
+    /// each with a search among those that the cell has here.
     pub fn has_own(&self, delta: &Delta) -> bool
         requires none { self.now.staged ≡ None }
         ensures own { result ≡ has_own self.now.replica (joined_history self.now.history) delta.now }
@@ -328,7 +324,7 @@ impl Staging {
         own::has_own(self.cells.grid(), delta, self.replica)
     }
 
-    /// Makes the staged change. It takes no memory.
+    /// Makes the staged change, and returns its report. It takes no memory.
     ///
     /// Cost: the touched cells with their references, and the cells that were put.
     pub fn commit(&mut self) -> Report
@@ -346,8 +342,8 @@ impl Staging {
         report
     }
 
-    /// Makes the staged change, as [`Staging::commit`] does, for who needs no report of it, or has read it. Who wants
-    /// the report calls [`Staging::commit`]. It takes no memory.
+    /// Makes the staged change, as [`Staging::commit`] does, for callers that need no report or have read it. It takes
+    /// no memory.
     ///
     /// Cost: the touched cells with their references, and the cells that were put.
     #[inline(always)]
@@ -387,7 +383,7 @@ impl Staging {
         }
     }
 
-    /// Lists the cells whose shown value the staged change makes another one, for [`Staging::changed`].
+    /// Lists the cells whose shown value the staged change alters, for [`Staging::changed`].
     ///
     /// Cost: that of sorting them, and the cells that were put.
     pub fn list_changed(&mut self)
@@ -399,10 +395,9 @@ impl Staging {
         self.cells.list_changed();
     }
 
-    /// The cell whose shown value alone the staged change makes another one, where the change put no other. None also
-    /// where no cell shows another value or several were put; then [`Staging::list_changed`] tells.
+    /// Returns the cell whose shown value the staged change alters, if the change put no other cell.
     ///
-    /// Cost: constant.
+    /// None means that no cell shows another value or that several were put: [`Staging::list_changed`] lists them then.
     #[inline(always)]
     pub fn one_changed(&self) -> Option<Cell>
         requires staged { is_some self.now.staged ≡ true }
@@ -423,9 +418,7 @@ impl Staging {
         self.cells.list_values();
     }
 
-    /// The delta of the staged change.
-    ///
-    /// Cost: constant.
+    /// Returns the delta of the staged change.
     pub fn delta(&self) -> &Delta
         requires staged { is_some self.now.staged ≡ true }
         ensures delta { IsSomeAnd self.now.staged (λ p. result.now ≡ p.delta) }
@@ -437,9 +430,7 @@ impl Staging {
         &staged.delta
     }
 
-    /// The report of the staged change.
-    ///
-    /// Cost: constant.
+    /// Returns the report of the staged change.
     pub fn report(&self) -> Report
         requires staged { is_some self.now.staged ≡ true }
         ensures report { IsSomeAnd self.now.staged (λ p. result ≡ p.report) }
@@ -451,9 +442,8 @@ impl Staging {
         staged.report
     }
 
-    /// Whether the delta of the staged change isn't below the state, so that it is to be appended to the history.
-    ///
-    /// Cost: constant.
+    /// Returns whether the delta of the staged change isn't below the state, so that it is to be appended to the
+    /// history.
     pub fn fresh(&self) -> bool
         requires staged { is_some self.now.staged ≡ true }
         ensures fresh { IsSomeAnd self.now.staged (λ p. result ≡ p.fresh) }
@@ -462,9 +452,7 @@ impl Staging {
         self.cells.is_staged()
     }
 
-    /// The cells that [`Staging::list_changed`] listed, ascending.
-    ///
-    /// Cost: constant.
+    /// Returns the cells that [`Staging::list_changed`] listed, ascending.
     pub fn changed(&self) -> &[Cell]
         requires staged { is_some self.now.staged ≡ true }
         ensures changed { IsSomeAnd self.now.staged (λ p. result.now ≡ p.changed) }
@@ -481,9 +469,7 @@ impl Staging {
         self.cells.changes()
     }
 
-    /// What each cell shows, with the staged change.
-    ///
-    /// Cost: constant.
+    /// Returns what each cell shows, with the staged change.
     pub fn all_shown(&self) -> &Shown
         ensures shown { shown_at result.now ≡ shown_at self.now.shown }
         ensures staging { IsStaging self.now }
@@ -491,9 +477,8 @@ impl Staging {
         self.cells.shown()
     }
 
-    /// The accepted deltas that changed the state, in the order in which they came, without that of the staged change.
-    ///
-    /// Cost: constant.
+    /// Returns the accepted deltas that changed the state, in the order in which they came, without that of the staged
+    /// change.
     pub fn history(&self) -> &[Delta]
         ensures history { result.now ≡ self.now.history }
         ensures staging { IsStaging self.now }
@@ -501,9 +486,7 @@ impl Staging {
         &self.history
     }
 
-    /// The length of the history.
-    ///
-    /// Cost: constant.
+    /// Returns the length of the history.
     pub fn version(&self) -> u64
         ensures version { result ≡ length self.now.history }
         ensures staging { IsStaging self.now }
@@ -511,9 +494,7 @@ impl Staging {
         self.history.len() as u64
     }
 
-    /// The replica that the sheet was opened with.
-    ///
-    /// Cost: constant.
+    /// Returns the replica that the sheet was opened with.
     pub fn replica(&self) -> u8
         ensures replica { result ≡ self.now.replica }
         ensures staging { IsStaging self.now }
@@ -572,7 +553,7 @@ impl Staging {
     }
 }
 
-/// Makes room for later deltas, where the history has any.
+/// Makes room for later deltas, unless the history is empty: then their list takes its place.
 fn make_room(history: &mut Vec<Delta>, deltas: &[Delta]) -> Result<(), Refusal>
     ensures same { history.new.items ≡ history.old.items }
     ensures room { OnOk result (HasRoomAfter history.new (length deltas.now)) }
@@ -585,7 +566,7 @@ fn make_room(history: &mut Vec<Delta>, deltas: &[Delta]) -> Result<(), Refusal>
     Ok(())
 }
 
-/// Puts later deltas after a history. Where the history is empty, their list takes its place, and none is moved.
+/// Puts later deltas after a history. If the history is empty, their list takes its place, and none is moved.
 fn put_after(history: &mut Vec<Delta>, mut deltas: Vec<Delta>)
     requires room { HasRoomAfter history.old (length deltas.items) }
     ensures { history.new.items ≡ history.old.items ++ deltas.items }
@@ -594,6 +575,6 @@ fn put_after(history: &mut Vec<Delta>, mut deltas: Vec<Delta>)
         *history = deltas;
         return;
     }
-    // never refused, since there is room for these
+    // never fails, since there is room for these
     let _ = history.append(&mut deltas);
 }

@@ -1,6 +1,6 @@
-//! That a sheet in which a change may be staged may go to another thread.
+//! Proof that a sheet in which a change may be staged may go to another thread.
 //!
-//! The search for this finds no proof over the whole at once, so its parts are taken one after another.
+//! The search for this proof fails over the whole at once, so it takes the parts one after another.
 ghost use denote.Param.Send.{IsSend, IsSync};
 ghost use Rattle.ps_sheet.specs.contracts.staging.Staging as staging;
 
@@ -13,9 +13,8 @@ fn is_send_and_sync<T: Send + Sync>()
     ensures sync { IsSync T.row }
 {}
 
-/// A sheet in which a change may be staged may go to another thread. Who shares one between threads calls this first.
-///
-/// Cost: none.
+/// States that a sheet in which a change may be staged may go to another thread. Callers that share one between threads
+/// call this first.
 pub fn staging_is_send()
     ensures { IsSend staging.the_row }
 {

@@ -100,7 +100,7 @@ pub to_floor : (q : ℕ) → q / BLOCK * BLOCK ≤ q
 to_floor q = omega (arith, div-add-mod' q BLOCK)
 
 -- the block of a place: what lies before the place, what is kept there, and what lies after it
-block_parts : (kept : List Kept) (place : ℕ)
+pub block_parts : (kept : List Kept) (place : ℕ)
     → block_items kept (place / BLOCK)
     ≡ items_between kept (place / BLOCK * BLOCK) place ++ cell_items (value_of (get_or kept place Empty))
     ++ items_between kept (place + 1) (place / BLOCK * BLOCK + BLOCK)

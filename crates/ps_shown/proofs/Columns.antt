@@ -1,7 +1,7 @@
 -- The items of a rectangle row by row, and column after column.
 use Rattle.std.proofs.Common.{◌≡◌, ℕ, zero, suc, ◌+◌, ◌*◌, ◌/◌, ◌%◌, ◌≤◌, List, [], ◌∷◌, ◌++◌, map, flat_map}
 use Rattle.std.proofs.Common.{true, false, ◌&&◌, ◌||◌, length, length-append, is_some, None, Some, Option, ◌+ℤ◌}
-use Rattle.std.proofs.Common.{refl, ap, sym, ◌∙◌, arith, Bool}
+use Rattle.std.proofs.Common.{refl, ap, sym, ◌∙◌, arith, Bool, Err}
 use Rattle.std.specs.Int.{int_max, int_min}
 use Rattle.std.specs.List.{list_all, range_with_len}
 use Rattle.std.specs.Option.{option_or}
@@ -12,14 +12,14 @@ use Rattle.std.proofs.Common.{append_assoc}
 use Rattle.std.proofs.lemmas.List.Concat.{flat_map-append}
 use Rattle.std.proofs.lemmas.List.Folds.{list_all-append}
 use Rattle.std.proofs.lemmas.List.FromFn.{length-range_with_len}
-use Rattle.ps_grid.specs.declared.size.TheConstants.{ROWS}
+use Rattle.ps_grid.specs.declared.size.TheConstants.{CELLS, ROWS}
 use Rattle.ps_grid.specs.Rectangle.{Area, LiesInGrid, area, cell_within, nth_cell}
 use Rattle.ps_value.specs.declared.value.Fault.{Fault}
 use Rattle.ps_eval.specs.Number.{Number, in_range}
 use Rattle.ps_eval.specs.Items.{Assignment, cell_items, first_fault, numbers_in, range_items, total}
 use Rattle.ps_eval.specs.Summarized.{Summarizes, lowest_of, highest_of}
 use Rattle.ps_eval.specs.declared.summary.Summary.{Summary}
-use Rattle.ps_eval.proofs.RangeItems.{fewer_items, range_items_are}
+use Rattle.ps_eval.proofs.RangeItems.{few_numbers, fewer_items, range_items_are}
 use Rattle.ps_eval.proofs.SummaryLemmas.{numbers_in-append, total-append, lowest-append, highest-append}
 use Rattle.ps_eval.proofs.SummaryLemmas.{fewer_numbers, first_fault-append}
 use Rattle.ps_shown.specs.Sums.{column_items, items_by_columns}
@@ -57,7 +57,7 @@ module _ {X : Type 0} (f : List Number → X) (m : Measure f) where
 
 -- ---- the rows of a rectangle
 
-ranges-append : (a m n : ℕ) → range_with_len a (m + n) ≡ range_with_len a m ++ range_with_len (a + m) n
+pub ranges-append : (a m n : ℕ) → range_with_len a (m + n) ≡ range_with_len a m ++ range_with_len (a + m) n
 ranges-append a zero n =
     let none : 0 + n ≡ n = omega arith in
     let here : a ≡ a + 0 = omega arith in
@@ -99,7 +99,7 @@ module _ (a : Area) (e : ℕ → List Number) where
       ++ rows (d + 1) h (s + a.width) (a.width * h) next refl i)
 
 -- the items of a range, row by row
-rows_are : (v : Assignment) (a : Area) → LiesInGrid a
+pub rows_are : (v : Assignment) (a : Area) → LiesInGrid a
     → range_items v a
     ≡ flat_map (λ y. flat_map (λ x. cell_items (v (cell_within a x y))) (range_with_len 0 a.width))
     (range_with_len 0 a.height)
@@ -180,19 +180,40 @@ none_is : (x : Option Fault) → is_some x ≡ false → x ≡ None
 none_is None h = refl
 none_is (Some fault) h = absurd (let e : true ≡ false = h in cc)
 
--- what is known of the items column after column is known of them row by row, where there is no fault
+-- what is known of the items column after column is known of them row by row, but for which fault is the first
+turned_known : (v : Assignment) (a : Area) (s : Summary) (items : List Number) → LiesInGrid a
+    → numbers_in items ≡ numbers_in (items_by_columns v a a.width)
+    → Summarizes items s → first_fault items ≡ first_fault (range_items v a)
+    → Summarizes (range_items v a) s
+turned_known v a s items g same known alike = record {
+  counted = known.counted ∙ ap length same ∙ sym (same_measure _ count_measure v a g);
+  summed = known.summed ∙ ap total same ∙ sym (same_measure _ total_measure v a g);
+  lowest = known.lowest ∙ ap lowest_of same ∙ sym (same_measure _ lowest_measure v a g);
+  highest = known.highest ∙ ap highest_of same ∙ sym (same_measure _ highest_measure v a g);
+  first = known.first ∙ alike;
+  ranged = same_measure _ range_measure v a g ∙ sym (ap (list_all in_range) same) ∙ known.ranged;
+}
+
+-- where there is no fault, all of it
 pub turned_summary : (v : Assignment) (a : Area) (s : Summary) → LiesInGrid a
     → Summarizes (items_by_columns v a a.width) s → is_some (first_fault (items_by_columns v a a.width)) ≡ false
     → Summarizes (range_items v a) s
-turned_summary v a s g known none = record {
-  counted = known.counted ∙ sym (same_measure _ count_measure v a g);
-  summed = known.summed ∙ sym (same_measure _ total_measure v a g);
-  lowest = known.lowest ∙ sym (same_measure _ lowest_measure v a g);
-  highest = known.highest ∙ sym (same_measure _ highest_measure v a g);
-  first = known.first ∙ none_is (first_fault (items_by_columns v a a.width)) none
-      ∙ sym (none_is (first_fault (range_items v a)) (same_measure _ fault_measure v a g ∙ none));
-  ranged = same_measure _ range_measure v a g ∙ known.ranged;
-}
+turned_summary v a s g known none =
+    turned_known v a s (items_by_columns v a a.width) g refl known
+    (none_is (first_fault (items_by_columns v a a.width)) none
+    ∙ sym (none_is (first_fault (range_items v a)) (same_measure _ fault_measure v a g ∙ none)))
+
+-- where none is found row by row, there is none column after column
+pub turned_clean : (v : Assignment) (a : Area) → LiesInGrid a → None ≡ first_fault (range_items v a)
+    → is_some (first_fault (items_by_columns v a a.width)) ≡ false
+turned_clean v a g none = sym (same_measure _ fault_measure v a g) ∙ ap is_some (sym none)
+
+-- where the first fault is found row by row and comes before all items
+pub turned_led : (v : Assignment) (a : Area) (s : Summary) (fault : Fault) → LiesInGrid a
+    → Summarizes (Err fault ∷ items_by_columns v a a.width) s → Some fault ≡ first_fault (range_items v a)
+    → Summarizes (range_items v a) s
+turned_led v a s fault g known found =
+    turned_known v a s (Err fault ∷ items_by_columns v a a.width) g refl known found
 
 single_rows : (g : ℕ → List Number) (js : List ℕ) → flat_map (λ j. g j ++ []) js ≡ flat_map g js ++ []
 single_rows g [] = refl
@@ -233,3 +254,11 @@ few_in_column v a across g =
     let r = length-range_with_len 0 a.height in
     let t = g.within_rows in
     omega (arith, p, q, r, t)
+
+-- and all columns of a range no more than the grid has cells
+pub few_in_columns : (v : Assignment) (a : Area) → LiesInGrid a
+    → length (numbers_in (items_by_columns v a a.width)) ≤ CELLS
+few_in_columns v a g =
+    let few = few_numbers v a g in
+    let same = same_measure _ count_measure v a g in
+    omega (arith, few, same)

@@ -115,18 +115,22 @@ below_rows a across n p g left below low high =
     let rest = mod-mul-add (a.left + across) STRIDE (a.top + a.height + k) (omega (arith, less, below.within)) in
     omega (arith, below.past k less, rest, ap (λ q. q % STRIDE) is)
 
+-- what is kept so far below a column's first cell is shown there
+pub kept_within : (kept : List Kept) (a : Area) (across down : ℕ) → LiesInGrid a → across < a.width → down < a.height
+    → value_of (get_or kept (place_of (cell_within a across 0) + down) Empty)
+    ≡ shown_at kept (cell_within a across down)
+kept_within kept a across down g left upper =
+    ap (λ p. value_of (get_or kept p Empty)) (sym (place_within a across down g left upper))
+    ∙ sym (shown_at-here kept (cell_within a across down) (within_grid a across down g left upper))
+
 column_from : (kept : List Kept) (a : Area) (across k n : ℕ) → LiesInGrid a → across < a.width → k + n ≤ a.height
     → flat_map (λ j. cell_items (value_of (get_or kept (place_of (cell_within a across 0) + j) Empty)))
     (range_with_len k n)
     ≡ flat_map (λ down. cell_items (shown_at kept (cell_within a across down))) (range_with_len k n)
 column_from kept a across k zero g left fits = refl
 column_from kept a across k (suc n) g left fits =
-    (λ i. cell_items (head i) ++ column_from kept a across (k + 1) n g left (omega arith) i)
-  where
-    head : value_of (get_or kept (place_of (cell_within a across 0) + k) Empty)
-        ≡ shown_at kept (cell_within a across k)
-    head = ap (λ p. value_of (get_or kept p Empty)) (sym (place_within a across k g left (omega arith)))
-        ∙ sym (shown_at-here kept (cell_within a across k) (within_grid a across k g left (omega arith)))
+    (λ i. cell_items (kept_within kept a across k g left (omega arith) i)
+    ++ column_from kept a across (k + 1) n g left (omega arith) i)
 
 -- the run of a column has its items
 pub column_is : (kept : List Kept) (a : Area) (across : ℕ) → LiesInGrid a → across < a.width

@@ -1,12 +1,13 @@
-//! Summaries of blocks of the table that are remembered, and follow the cells that are put.
+//! Summaries of blocks of the table, which are remembered and follow the cells that are put.
 ghost use Rattle.std.specs.Prelude.{◌≡◌, ◌+◌, ◌*◌, ◌^◌, ◌/◌, ◌<◌, ◌≤◌, ℕ, List, ◌++◌, None, Some};
-ghost use Rattle.std.specs.Prelude.{IfSome, length, slice_index_or, slice_set, vec_capacity};
+ghost use Rattle.std.specs.Prelude.{IfSome, IsTrue, length, slice_index_or, slice_set, vec_capacity};
 ghost use Rattle.ps_value.specs.Operand.{operand_of};
 ghost use Rattle.ps_eval.specs.Number.{Number};
 ghost use Rattle.ps_eval.specs.Summarized.{Summarizes, numbers_taken};
 ghost use Rattle.ps_shown.specs.declared.kept.Kept.{Kept};
 ghost use Rattle.ps_shown.specs.Kept.{value_of};
 ghost use Rattle.ps_shown.specs.Blocks.{AreRemembered, block_items, items_between};
+ghost use Rattle.ps_shown.specs.Faults.{fault_kept};
 ghost use Rattle.ps_shown.specs.declared.shown.TheConstants.{PLACES};
 
 use crate::kept::Kept;
@@ -15,14 +16,14 @@ use crate::runs::Runs;
 use ps_eval::Summary;
 use ps_value::Operand;
 
-/// How many places a block has. It is no power of two, and neither is a column of whole blocks, so that the cells of a
-/// row don't share a few sets of the processor's cache.
+/// How many places a block has. It is no power of two, and neither is a column of whole blocks. So the cells of a row
+/// don't share a few sets of the processor's cache.
 pub(crate) const BLOCK: usize = 57;
 
-/// From how many rows on it is worth while to remember what is summed of a range: a whole block lies in it then.
+/// The number of rows from which it pays to remember the sums of a range: it then has a whole block.
 pub const LONG: usize = 2 * BLOCK;
 
-/// What is known of the items from one place up to another one, which are walked. The table may end before.
+/// The summary of the items from one place up to another, by a walk. The table may end before.
 #[inline]
 fn walk(kept: &[Kept], from: usize, to: usize) -> Summary
     requires { from ≤ to }
@@ -35,7 +36,7 @@ fn walk(kept: &[Kept], from: usize, to: usize) -> Summary
     summary_of_run(&kept[from.min(reached)..to.min(reached)])
 }
 
-/// What is remembered of a block.
+/// The remembered summary of a block.
 #[inline]
 fn known(sums: &[Option<Summary>], block: usize) -> Option<&Summary>
     ensures { IfSome result (λ s. slice_index_or sums.now block None ≡ Some s.now) }
@@ -47,7 +48,19 @@ fn known(sums: &[Option<Summary>], block: usize) -> Option<&Summary>
     }
 }
 
-/// The items of one more block: what is remembered of them, or else they are walked.
+/// Whether it is remembered that a block has no fault.
+pub(crate) fn is_free_of_faults(kept: &[Kept], sums: &[Option<Summary>], block: usize) -> bool
+    requires { AreRemembered kept.now sums.now }
+    ensures { IsTrue result → (p : ℕ)
+        → block * BLOCK ≤ p → p < block * BLOCK + BLOCK → fault_kept kept.now p ≡ None }
+{
+    if let Some(known) = known(sums, block) {
+        return !known.has_fault();
+    }
+    false
+}
+
+/// Adds the items of one more block: by its remembered summary, or by a walk.
 fn take_block(summary: &mut Summary, kept: &[Kept], sums: &[Option<Summary>], block: usize)
     requires remembered { AreRemembered kept.now sums.now }
     requires block { block * BLOCK + BLOCK ≤ PLACES }
@@ -62,8 +75,8 @@ fn take_block(summary: &mut Summary, kept: &[Kept], sums: &[Option<Summary>], bl
     }
 }
 
-/// The same of a summary by value.
-// Not inlined, so that the summary of whoever calls this lies in registers meanwhile.
+/// As `take_block`, of a summary by value.
+// Not inlined, so that the caller's summary stays in registers meanwhile.
 #[inline(never)]
 fn with_block(summary: Summary, kept: &[Kept], sums: &[Option<Summary>], block: usize) -> Summary
     requires remembered { AreRemembered kept.now sums.now }
@@ -78,7 +91,7 @@ fn with_block(summary: Summary, kept: &[Kept], sums: &[Option<Summary>], block: 
     summary
 }
 
-/// What is remembered of a block, unless there is a fault.
+/// The remembered summary of a block without a fault.
 #[inline(always)]
 fn known_numbers(sums: &[Option<Summary>], block: usize) -> Option<&Summary>
     requires { block < length sums.now }
@@ -90,8 +103,8 @@ fn known_numbers(sums: &[Option<Summary>], block: usize) -> Option<&Summary>
     }
 }
 
-/// The items of the blocks from one up to another one, as far as they are remembered and there is no fault. Returns
-/// the first block that is left.
+/// Adds the items of the blocks from `first` up to `end`, until one isn't remembered or has a fault. Returns the first
+/// block that is left.
 #[inline(always)]
 fn take_known(
     summary: &mut Summary,
@@ -125,9 +138,9 @@ fn take_known(
     next
 }
 
-/// What is known of the items from one place up to another one: block by block, and what lies before the first whole
-/// block and after the last one is walked.
-// Not inlined, so that the summary lies in registers while blocks are joined.
+/// The summary of the items from one place up to another: block by block. What lies before the first whole block and
+/// after the last one is walked.
+// Not inlined, so that the summary stays in registers while blocks are joined.
 #[inline(never)]
 pub(crate) fn summary_between(
     kept: &[Kept],
@@ -158,7 +171,7 @@ pub(crate) fn summary_between(
     summary
 }
 
-/// Remembers the summary of a block, if it isn't yet.
+/// Remembers the summary of a block, unless it is remembered already.
 fn remember_block(kept: &[Kept], sums: &mut Vec<Option<Summary>>, block: usize)
     requires remembered { AreRemembered kept.now sums.old.items }
     requires block { block * BLOCK + BLOCK ≤ PLACES }
@@ -172,7 +185,7 @@ fn remember_block(kept: &[Kept], sums: &mut Vec<Option<Summary>>, block: usize)
     }
 }
 
-/// Remembers nothing of the blocks up to this one that the list doesn't reach yet.
+/// Extends the list with blocks that aren't remembered, up to this one.
 fn reach(sums: &mut Vec<Option<Summary>>, block: usize)
     requires room { block < vec_capacity sums.old }
     ensures reached { block < length sums.new.items }
@@ -184,7 +197,7 @@ fn reach(sums: &mut Vec<Option<Summary>>, block: usize)
     }
 }
 
-/// Remembers the summaries of the blocks from one up to another one.
+/// Remembers the summaries of the blocks from `from` up to `end`.
 pub(crate) fn remember_blocks(
     kept: &[Kept],
     sums: &mut Vec<Option<Summary>>,
@@ -202,7 +215,7 @@ pub(crate) fn remember_blocks(
     }
 }
 
-/// What is remembered of the block in which a place lies follows what is put there, or is forgotten.
+/// Updates the summary of the place's block for what is put there, or drops it.
 #[inline(always)]
 pub(crate) fn follow(
     kept: &[Kept],
@@ -222,10 +235,10 @@ pub(crate) fn follow(
     }
 }
 
-/// The same where some block was remembered: what is known of this one exchanges the operand there for that of whatever
-/// is put, and is forgotten where it can't.
-// Not inlined, so that a put into a table that remembers nothing stays short; and what is put comes as its operand, so
-// that it need not lie in memory.
+/// As `follow`, for a table that remembers some block: exchanges one operand of the block's summary, or drops the
+/// summary if that can't be done.
+// Not inlined, so that a put into a table without summaries stays short. What is put comes as its operand, so that it
+// need not lie in memory.
 #[inline(never)]
 fn exchange_or_forget(
     kept: &[Kept],

@@ -1,31 +1,30 @@
-//! What is kept of one cell.
+//! What the table stores for one cell.
 ghost use Rattle.std.specs.Prelude.{◌≡◌, ◌↔◌, IsTrue};
 ghost use Rattle.ps_value.specs.Operand.{operand_of};
+ghost use Rattle.ps_eval.specs.Items.{cell_items, first_fault};
 ghost use Rattle.ps_shown.specs.Kept.{value_of};
 
 use ps_grid::{Refusal, Twin};
 use ps_value::{Fault, Operand, SharedLabel, Value};
 use std::alloc::Global;
 
-/// What is kept of a cell: its value in 16 bytes, for a text is shared.
+/// What the table stores for a cell: its value in 16 bytes, with a text shared.
 #[derive(Drop)]
 pub enum Kept {
-    /// It shows nothing.
+    /// Nothing.
     Empty,
-    /// It shows a whole number.
+    /// A whole number.
     Num(i64),
-    /// It shows a text.
+    /// A text.
     Text(SharedLabel),
-    /// It shows options: bit k stands for option k.
+    /// Options: bit k stands for option k.
     Choice(u64),
-    /// It shows no number, and why.
+    /// A fault in place of a value.
     Err(Fault),
 }
 
 impl Kept {
-    /// The value that the cell shows.
-    ///
-    /// Cost: constant.
+    /// Returns the value that the cell shows.
     pub fn value(&self) -> Value
         ensures { result ≡ value_of self.now }
     {
@@ -38,9 +37,7 @@ impl Kept {
         }
     }
 
-    /// What evaluation reads of the value; a text's bytes are not looked at.
-    ///
-    /// Cost: constant.
+    /// Returns what evaluation reads of the value. The bytes of a text are not looked at.
     #[inline]
     pub fn operand(&self) -> Operand
         ensures { result ≡ operand_of (value_of self.now) }
@@ -54,9 +51,20 @@ impl Kept {
         }
     }
 
-    /// Whether both cells show the same value. No value is copied.
+    /// The fault that is shown.
+    #[inline]
+    pub(crate) fn fault(&self) -> Option<Fault>
+        ensures { result ≡ first_fault (cell_items (value_of self.now)) }
+    {
+        match self {
+            Kept::Err(fault) => Some(*fault),
+            _ => None,
+        }
+    }
+
+    /// Returns whether both cells show the same value. No value is copied.
     ///
-    /// Cost: constant; of texts the bytes are compared.
+    /// Cost: of two texts, their bytes; else constant.
     #[inline(always)]
     pub fn is_same(&self, other: &Kept) -> bool
         ensures { IsTrue result ↔ (value_of self.now ≡ value_of other.now) }
@@ -72,7 +80,7 @@ impl Kept {
     }
 }
 
-/// A text gets one more owner. No memory is taken.
+/// The twin of a text is one more owner of it. No memory is taken.
 impl Twin for Kept {
     fn twin(&self, alloc: Global) -> Result<Kept, Refusal> {
         match self {

@@ -7,11 +7,11 @@ ghost use Rattle.ps_shown.specs.declared.run.TheConstants.{TOGETHER};
 use crate::kept::Kept;
 use ps_eval::Summary;
 
-/// How many cells are asked together whether they are numbers.
+/// How many cells are tested together for being numbers.
 const TOGETHER: usize = 4;
 
-/// What SUM, MIN, MAX and COUNT need to know of what is kept.
-// Not inlined, so that the summary lies in registers while the cells are walked.
+/// The summary of a run of stored cells.
+// Not inlined, so that the summary stays in registers while the cells are walked.
 #[inline(never)]
 pub(crate) fn summary_of_run(run: &[Kept]) -> Summary
     ensures { Summarizes (items_kept run.now) result }
@@ -26,8 +26,8 @@ pub(crate) fn summary_of_run(run: &[Kept]) -> Summary
     summary
 }
 
-/// Takes the cells from one on, four at a time, for as long as all four are numbers. Returns the first that is left.
-// (of cells that are known to be numbers none is asked what it shows, so that nothing but sums and tests is left)
+/// Takes the cells from `from` on, four at a time, as long as all four are numbers. Returns the first that is left.
+// (a cell known to be a number isn't matched again, so only sums and tests are left in the loop)
 #[inline(always)]
 fn take_numbers(summary: &mut Summary, run: &[Kept], from: usize) -> usize
     requires taken { HasTaken run.now from summary.old }
@@ -58,13 +58,13 @@ fn are_numbers(run: &[Kept], from: usize) -> bool
         && is_number(&run[from + 3])
 }
 
-/// Whether a number is kept.
+/// Whether a number is stored.
 #[inline(always)]
 fn is_number(kept: &Kept) -> bool {
     matches!(kept, Kept::Num(_))
 }
 
-/// Takes the cells from one up to another one, whatever they show.
+/// Takes the cells from `from` up to `to`, whatever they show.
 #[inline(always)]
 fn take_each(summary: &mut Summary, run: &[Kept], from: usize, to: usize)
     requires taken { HasTaken run.now from summary.old }

@@ -19,7 +19,7 @@ pub(crate) struct Runs {
 }
 
 impl Runs {
-    /// Where nothing is remembered.
+    /// No block is remembered.
     pub(crate) fn new() -> Runs {
         Runs {
             firsts: [0; COLUMNS],
@@ -39,8 +39,8 @@ impl Runs {
         }
     }
 
-    /// The blocks of a column from one up to another one, which are remembered: with those of its run, or in place of
-    /// them where others lie between.
+    /// Adds remembered blocks, from `first` up to `end`, to the column's run. If there is a gap between, they replace
+    /// the run.
     pub(crate) fn extend(&mut self, column: usize, first: usize, end: usize)
         requires { column < COLUMNS }
     {
@@ -53,7 +53,7 @@ impl Runs {
         }
     }
 
-    /// Leaves out a block, and those after it.
+    /// Takes a block, and those after it, out of its column's run.
     pub(crate) fn cut(&mut self, block: usize) {
         let column = block / COLUMN_BLOCKS;
         if column < COLUMNS && self.firsts[column] <= block && block < self.ends[column] {

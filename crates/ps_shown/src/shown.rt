@@ -1,5 +1,6 @@
 //! What each cell shows.
-ghost use Rattle.std.specs.Prelude.{◌≡◌, ◌<◌, ◌≤◌, ℕ, length, slice_index_or, vec_capacity, IfOk, IfErr};
+ghost use Rattle.std.specs.Prelude.{◌≡◌, ◌^◌, ◌<◌, ◌≤◌, ℕ, length, slice_index_or, vec_capacity, IfOk, IfErr};
+ghost use Rattle.std.specs.Prelude.{List, ◌∷◌};
 ghost use Rattle.ps_grid.specs.declared.size.TheConstants.{CELLS as ALL};
 ghost use Rattle.ps_grid.specs.Rectangle.{LiesInGrid};
 ghost use Rattle.ps_grid.specs.declared.refusal.Refusal.TheVariants.{Memory};
@@ -9,41 +10,43 @@ ghost use Rattle.ps_shown.specs.declared.kept.Kept.TheVariants.{Empty};
 ghost use Rattle.ps_shown.specs.Kept.{value_of};
 ghost use Rattle.ps_shown.specs.Shown.{LieBelow, place_of, shown_at, with_value};
 ghost use Rattle.ps_shown.specs.Sums.{column_items, items_by_columns};
-ghost use Rattle.ps_eval.specs.Summarized.{Summarizes};
-ghost use Rattle.ps_eval.specs.Items.{range_items};
+ghost use Rattle.ps_eval.specs.Number.{Number};
+ghost use Rattle.ps_eval.specs.Summarized.{Summarizes, numbers_taken};
+ghost use Rattle.ps_eval.specs.Items.{first_fault, range_items};
 
 use crate::blocks::{BLOCK, follow, remember_blocks, summary_between};
+use crate::faults::{fault_at, place_of_fault};
 use crate::kept::Kept;
 use crate::runs::Runs;
 use ps_eval::{Look, Summary};
 use ps_grid::{COLUMNS, Cell, ROWS, Rect, Refusal, Twin};
-use ps_value::{Operand, Value};
+use ps_value::{Fault, Operand, Value};
 use std::alloc::Global;
 use std::marker::Model;
 use std::mem;
 
-/// How far apart two neighbours of a row lie: a column has as many whole blocks as its rows take.
+/// The places from the top of one column to the top of the next: whole blocks, enough for the rows of a column.
 const STRIDE: usize = (ROWS + BLOCK - 1) / BLOCK * BLOCK;
 
 /// A range of several columns with fewer rows is walked row by row: so short a run of a column doesn't pay.
 const FEW_ROWS: usize = 4;
 
-/// How many places a table has.
+/// The places of a table.
 const PLACES: usize = STRIDE * COLUMNS;
 
-/// How many blocks it has.
+/// The blocks of a table.
 const BLOCKS: usize = PLACES / BLOCK;
 
 /// What each cell shows. A contract sees it as a list, and speaks of it by `shown_at`, the value that each cell shows.
 #[derive(Drop)]
 pub struct Shown {
-    /// what is kept of each cell, column after column, up to the last that was put; there is room for all
+    /// what is stored for each cell, column after column, up to the last that was put; there is room for all
     kept: Vec<Kept>,
-    /// the summaries of blocks that are remembered, up to the last block that ever was; there is room for all
+    /// the summaries of blocks, `None` where none is remembered, up to the last that ever was; there is room for all
     sums: Vec<Option<Summary>>,
-    /// which of them are known to be there
+    /// a run of remembered blocks for each column
     runs: Runs,
-    /// what is lent for a cell after those
+    /// what a cell after those is read as
     empty: Kept,
 }
 
@@ -63,7 +66,7 @@ impl Model for Shown {
         × (BLOCKS ≤ vec_capacity s.sums) × AreRemembered s.kept.items s.sums.items × KeepsCells s.kept.items };
 }
 
-/// Where a cell lies.
+/// The place of a cell in the table.
 #[inline]
 fn place(cell: Cell) -> usize
     ensures place { result ≡ place_of cell }
@@ -74,8 +77,8 @@ fn place(cell: Cell) -> usize
     index % COLUMNS * STRIDE + index / COLUMNS
 }
 
-/// How many places more than its rows a range takes of each of its columns. Where it reaches the bottom row they are
-/// those up to the column's end, so that its last block is whole: no cell lies there. Else there are none.
+/// How many places beyond its rows a range takes in each of its columns. A range that reaches the bottom row takes
+/// those up to the column's end, so that its last block is whole: no cell lies there. Any other range takes none.
 fn places_below(rect: Rect) -> usize
     ensures { LieBelow rect result }
 {
@@ -88,7 +91,7 @@ fn places_below(rect: Rect) -> usize
     }
 }
 
-/// Keeps nothing of the places up to this one that the table doesn't reach yet.
+/// Extends the table with empty places up to this one.
 fn reach(kept: &mut Vec<Kept>, place: usize)
     requires room { place < vec_capacity kept.old }
     ensures reached { place < length kept.new.items }
@@ -100,10 +103,21 @@ fn reach(kept: &mut Vec<Kept>, place: usize)
     }
 }
 
+/// The summary of a fault and the items of another summary.
+fn led_by(fault: Fault, others: &Summary) -> Summary
+    requires room { numbers_taken others.now < 2 ^ 60 }
+    ensures { (items : List Number) → Summarizes items others.now → Summarizes (Err fault ∷ items) result }
+{
+    let mut summary = Summary::new();
+    summary.take_cell(Operand::Err(fault));
+    summary.join(others);
+    summary
+}
+
 impl Shown {
-    /// The table where each cell shows nothing. Refused only when out of memory.
+    /// Returns the table where each cell shows nothing. Fails only when out of memory.
     ///
-    /// Cost: two allocations of 2 MB together, of which nothing is written yet.
+    /// Cost: two allocations, 2 MB together; nothing is written yet.
     pub fn new(alloc: Global) -> Result<Shown, Refusal>
         ensures empty { IfOk result (λ s. shown_at s ≡ λ _. Nothing) }
         ensures memory { IfErr result (λ e. e ≡ Memory) }
@@ -118,18 +132,14 @@ impl Shown {
         })
     }
 
-    /// What a cell shows.
-    ///
-    /// Cost: constant.
+    /// Returns what a cell shows.
     pub fn at(&self, cell: Cell) -> Value
         ensures { result ≡ shown_at self.now cell }
     {
         self.kept(cell).value()
     }
 
-    /// What is kept of a cell.
-    ///
-    /// Cost: constant.
+    /// Returns what is stored for a cell.
     #[inline]
     pub fn kept(&self, cell: Cell) -> &Kept
         ensures { value_of result.now ≡ shown_at self.now cell }
@@ -142,9 +152,7 @@ impl Shown {
         }
     }
 
-    /// What evaluation reads of what a cell shows.
-    ///
-    /// Cost: constant.
+    /// Returns what evaluation reads of a cell's value.
     #[inline]
     pub fn operand(&self, cell: Cell) -> Operand
         ensures { result ≡ operand_of (shown_at self.now cell) }
@@ -152,11 +160,12 @@ impl Shown {
         self.kept(cell).operand()
     }
 
-    /// What SUM, MIN, MAX and COUNT need to know of the items of a range.
+    /// Returns what SUM, MIN, MAX and COUNT need to know of the items of a range. If it has faults, the first one
+    /// counts, row by row.
     ///
-    /// Cost: column after column a step for each block that is remembered and has all its rows in the range, which are
-    /// 55 of a column's last block and 57 of each other, and one for each other cell; and the cells row by row, too,
-    /// where there is a fault among those of several columns, for the first one counts.
+    /// Cost: a step for each remembered block that has all its rows in the range, and one for each other cell. A
+    /// column's last block has 55 rows, and each other 57. If several columns have a fault, the search for the first
+    /// costs as much again at most, and a walk of one remembered block for each column.
     pub fn summary(&self, rect: Rect) -> Summary
         ensures { Summarizes (range_items (shown_at self.now) rect) result }
     {
@@ -169,14 +178,39 @@ impl Shown {
             return self.summary_by_cells(rect);
         }
         let summary = self.columns(rect);
-        if summary.has_fault() {
-            self.summary_by_cells(rect)
-        } else {
-            summary
+        if !summary.has_fault() {
+            return summary;
+        }
+        match self.first_fault(rect) {
+            Some(fault) => led_by(fault, &summary),
+            None => summary,
         }
     }
 
-    /// What is known of the items of a range, column after column.
+    /// The first fault of a range, row by row. Each column is searched only above the faults found so far.
+    fn first_fault(&self, rect: Rect) -> Option<Fault>
+        ensures { result ≡ first_fault (range_items (shown_at self.now) rect) }
+    {
+        // for the fact that the range lies in the grid
+        let _ = rect.area();
+        let columns = rect.width();
+        let mut rows = rect.height();
+        let mut first = None;
+        let mut across = 0;
+        'search: while across < columns {
+            let top = place(rect.at(across, 0));
+            let end = top + rows;
+            let found = place_of_fault(&self.kept, &self.sums, top, end);
+            across += 1;
+            if found < end {
+                first = fault_at(&self.kept, found);
+                rows = found - top;
+            }
+        }
+        first
+    }
+
+    /// The summary of the items of a range, column after column.
     fn columns(&self, rect: Rect) -> Summary
         ensures summary { Summarizes (items_by_columns (shown_at self.now) rect rect.width) result }
         ensures in_grid { LiesInGrid rect }
@@ -191,7 +225,7 @@ impl Shown {
         summary
     }
 
-    /// What is known of the items of one column of a range, which takes so many places below its rows too.
+    /// The summary of the items of one column of a range. It takes `below` places after the column's rows too.
     fn column(&self, rect: Rect, across: usize, below: usize) -> Summary
         requires across { across < rect.width }
         requires below { LieBelow rect below }
@@ -203,12 +237,12 @@ impl Shown {
         summary_between(&self.kept, &self.sums, top, top + rect.height() + below)
     }
 
-    /// Remembers what SUM, MIN, MAX and COUNT need to know of each block that has all its rows in the range, so that
-    /// `summary` doesn't walk those cells again before `put` drops what is remembered of the block. What the cells show
-    /// stays.
+    /// Remembers the summary of each block that has all its rows in the range. What the cells show stays.
     ///
-    /// Cost: constant for each column where all blocks of the range are known to be remembered; else its blocks, and
-    /// the cells of those that aren't remembered yet.
+    /// `summary` then doesn't walk those cells again until `put` drops the block's summary.
+    ///
+    /// Cost: constant for each column where all blocks of the range are known to be remembered. For any other column,
+    /// its blocks, and the cells of those that aren't remembered yet.
     pub fn remember(&mut self, rect: Rect)
         ensures { self.new ≡ self.old }
     {
@@ -218,7 +252,7 @@ impl Shown {
         }
     }
 
-    /// The same of one column of the range, which takes so many places below its rows too.
+    /// Remembers the blocks of one column of the range, with `below` places after its rows.
     fn remember_column(&mut self, rect: Rect, across: usize, below: usize)
         requires across { across < rect.width }
         requires below { LieBelow rect below }
@@ -237,13 +271,14 @@ impl Shown {
         }
     }
 
-    /// Puts what a cell shows from now on, and returns what was kept of it. It takes no memory.
+    /// Stores what a cell shows from now on, and returns what was stored for it. It takes no memory.
     ///
-    /// Cost: constant, but a cell that lies further on in the table than all that were put before has what is between
-    /// written, so that all calls together write the table once more at most. What is remembered of the cell's block
-    /// follows. It is dropped where there was a fault among the block's cells, even if it is this one that goes, or
-    /// where the number that goes was the least or the greatest of them, even if the same number comes: then the next
-    /// `remember` walks the block.
+    /// The summary of the cell's block follows what is put. It is dropped if the block has a fault, even if that fault
+    /// is the one that goes. It is also dropped if the number that goes was the block's least or greatest, even if the
+    /// same number comes. The next `remember` then walks the block.
+    ///
+    /// Cost: constant, except that a cell beyond all that were put has the places up to it written. All calls together
+    /// write the table once at most.
     #[inline(always)]
     pub fn put(&mut self, cell: Cell, kept: Kept) -> Kept
         ensures shown { shown_at self.new ≡ with_value (shown_at self.old) cell (value_of kept) }
@@ -256,7 +291,7 @@ impl Shown {
     }
 }
 
-/// A table is looked at as it lies.
+/// Evaluation reads the table as it lies.
 impl Look for Shown {
     ghost use Rattle.ps_shown.specs.Shown.{shown_at};
 
@@ -275,7 +310,7 @@ impl Look for Shown {
     }
 }
 
-/// The table once more, where each text gets one more owner.
+/// The twin shares each text, and remembers no summaries.
 impl Twin for Shown {
     fn twin(&self, alloc: Global) -> Result<Shown, Refusal> {
         let mut kept = Vec::with_capacity(alloc, PLACES)?;

@@ -1,4 +1,4 @@
--- What the private functions say of lines on their way; no contract of a public one cites this.
+-- Definitions of the private functions; no contract of a public one cites them.
 use Rattle.std.specs.Prelude.{◌≡◌, ◌≢◌, ◌⊎◌, ◌+◌, ◌-◌, ◌^◌, ◌<◌, ℕ, List, [], ◌∷◌, ◌++◌, length, min}
 use Rattle.std.specs.Prelude.{Contains, Option, Some, None, ⊤}
 use Rattle.std.specs.List.{All}
@@ -25,7 +25,7 @@ IsRead line None = FirstSays line None []
 IsRead line (Some (kept_lines.Replica n)) = FirstSays line (Some n) []
 IsRead line (Some (kept_lines.Push d)) = FirstSays line None (d ∷ [])
 
--- what a line says that comes after so many: only the first may tell whose the lines are
+-- what a line says after `count` lines: only the first may tell the replica
 abbrev pub NextSays : ℕ → Option ℕ → List ℕ → Option ℕ → List Entries → Type 0
 NextSays count before line after deltas =
     ((count ≡ 0) × FirstSays line after deltas) ⊎ ((0 < count) × (after ≡ before) × Says line deltas)
@@ -75,7 +75,7 @@ abbrev pub IsOfIntake : SquashFault → Type 0
 IsOfIntake faults.Source = ⊤
 IsOfIntake fault = IsOfLines fault
 
--- the text tells the replica, and pushes just the state, by deltas that divide cells in order
+-- the text tells the replica, and pushes exactly the state, by deltas that divide cells in order
 pub record IsText (told : Option ℕ) (state : State) (text : List ℕ) : Type 0 where
   pub fewer : List Entries
   pub cells : Entries
@@ -84,7 +84,7 @@ pub record IsText (told : Option ℕ) (state : State) (text : List ℕ) : Type 0
   pub spelled : text ≡ told_line told ++ push_lines fewer
   pub same : joined_history fewer ≡ state
 
--- after what was there before, the text pushes the first of the cells, by full lines, and the rest is left
+-- after the earlier text, full lines push the first of the cells, and the rest is left
 pub record AreWritten (cells left : Entries) (before text : List ℕ) : Type 0 where
   pub deltas : List Entries
   pub spelled : text ≡ before ++ push_lines deltas

@@ -33,13 +33,13 @@ abbrev pub FirstSays : List ℕ → Option ℕ → List Entries → Type 0
 FirstSays line (Some n) deltas = Tells line n × (deltas ≡ [])
 FirstSays line None deltas = TellsNone line × Says line deltas
 
--- what all lines say, the first of which may tell whose they are
+-- what all lines say; the first of them may tell the replica
 abbrev pub SayAll : List (List ℕ) → Option ℕ → List Entries → Type 0
 SayAll [] told deltas = (told ≡ None) × (deltas ≡ [])
 SayAll (line ∷ lines) told deltas = (first : List Entries) × (others : List Entries)
     × FirstSays (without_return line) told first × Say lines others × (deltas ≡ first ++ others)
 
--- whose the lines of the bytes are, where the first one tells it, and what they all say, joined
+-- the replica of the lines of the bytes, if the first one tells it, and the join of what they all say
 pub record SayTogether (bytes : List ℕ) (told : Option ℕ) (state : State) : Type 0 where
   pub lines : List (List ℕ)
   pub rest : List ℕ
@@ -48,9 +48,8 @@ pub record SayTogether (bytes : List ℕ) (told : Option ℕ) (state : State) : 
   pub said : SayAll (with_last lines rest) told deltas
   pub joined : state ≡ joined_history deltas
 
--- the line that begins after these lines says nothing that a delta is, nor tells a replica as the first one, and each
--- before it does; it has this number, from 1 on, and 2^64 - 1 stands for more. `ended` is known where nothing comes
--- after it
+-- the line that begins after these lines is faulty, and none before it is: it says no delta, nor tells a replica as the
+-- first one. Its number counts from 1, and 2^64 - 1 stands for more. `ended` is known if nothing comes after it
 pub record FirstFault (ended : Type 0) (bytes : List ℕ) (number : ℕ) : Type 0 where
   pub lines : List (List ℕ)
   pub line : List ℕ
@@ -103,8 +102,8 @@ pub record Divide (deltas : List Entries) (cells : Entries) : Type 0 where
   pub each : All (λ d. IsLine (delta_text d) d) deltas
   pub full : AreFull deltas []
 
--- SQUASHED: the text tells whose the lines are, where their first one does, and then pushes as few deltas as the cells
--- of the joined lines need, each cell once and in order, which say the same together
+-- SQUASHED: the text begins with the line of the replica, if the first line of the bytes tells one. Then it pushes as
+-- few deltas as the cells of the joined lines need, each cell once and in order, which say the same together
 pub record IsSquashed (bytes text : List ℕ) : Type 0 where
   pub told : Option ℕ
   pub state : State

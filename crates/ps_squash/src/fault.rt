@@ -7,11 +7,12 @@ use std::alloc::AllocError;
 /// Why lines aren't squashed.
 #[derive(Clone, Copy, PartialEq, Eq)]
 pub enum SquashFault {
-    /// There was no memory; nothing was written.
+    /// Out of memory; nothing was written.
     Memory,
-    /// The line of this number, counted from 1 on, is no delta's; nothing was written. 2^64 - 1 stands for more.
+    /// The line of this number, counted from 1, is no delta's; nothing was written. 2^64 - 1 stands for that number and
+    /// more.
     Line(u64),
-    /// What the lines hold together of one cell has no line; nothing was written.
+    /// The join of a cell has no line, as its text is too long; nothing was written.
     TooLong,
     /// The source failed; nothing was written.
     Source,

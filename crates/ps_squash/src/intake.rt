@@ -1,4 +1,4 @@
-//! The lines of a source, joined as they come.
+//! Joins the lines of a source as they come.
 ghost use Rattle.std.specs.Prelude.{◌≡◌, ◌⊎◌, ◌+◌, ◌-◌, ◌^◌, ◌<◌, ◌≤◌, ℕ, List, [], Err, IfOk, IfErr, OnOk, ⊤};
 ghost use Rattle.std.specs.Prelude.{None, Option, length, min, take};
 ghost use Rattle.std.specs.Io.KnownBytes.{Consumes, IsAtEnd};
@@ -19,25 +19,26 @@ use ps_lines::{KeptLine, Line, LineBuffer, read_kept_line};
 use ps_wire::Decoder;
 use std::alloc::Global;
 
-/// Lines that are being taken in: the one that is being read, and what all before it say together.
+/// The intake of a source: the line that is being read, and the join of all lines before it.
 #[derive(Drop)]
 struct Intake {
-    /// What memory is taken from.
+    /// The allocator.
     alloc: Global,
-    /// What reads the deltas of the lines.
+    /// Reads the deltas of the lines.
     decoder: Decoder,
     /// The line that is being read.
     session: LineBuffer,
-    /// Whose the lines are, where the first one told it.
+    /// The replica that the first line tells.
     told: Option<u8>,
-    /// The join of what the lines say.
+    /// The join of the lines so far.
     state: Grid,
-    /// How many lines have ended; 2^64 - 1 stands for more.
+    /// The number of lines that have ended; 2^64 - 1 stands for that number and more.
     ended: u64,
 }
 
-/// What a line says: that of a kept file, or a delta that it is a line of without `push `; none where it is empty.
-/// Refused as `Delta` where it is neither, and as `Memory`.
+/// Returns what a line says: that of a kept file, or a delta whose line it is without `push `; none if it is empty.
+///
+/// Fails as `Delta` if it says neither, and as `Memory`.
 fn read_line(alloc: Global, decoder: &mut Decoder, line: &[u8]) -> Result<Option<KeptLine>, Refusal>
     ensures read { IfOk result (IsRead line.now) }
     ensures faulty { result ≡ Err refusals.Delta → (deltas : List Entries) → ¬ Says line.now deltas }
@@ -53,8 +54,9 @@ fn read_line(alloc: Global, decoder: &mut Decoder, line: &[u8]) -> Result<Option
     }
 }
 
-/// Joins what a line says into the state, or answers with the replica that it tells. Refused as `Delta` where it isn't
-/// empty and neither tells a replica nor is a delta's, and as `Memory`.
+/// Joins what a line says into the state, or returns the replica that it tells.
+///
+/// Fails as `Delta` if the line isn't empty, tells no replica and is no delta's, and as `Memory`.
 fn join_line(
     alloc: Global,
     decoder: &mut Decoder,
@@ -78,7 +80,7 @@ fn join_line(
 }
 
 impl Intake {
-    /// Joins what the line that is held says, which may tell a replica where it is the first.
+    /// Joins what the held line says. Only the first line may tell a replica.
     fn join(&mut self) -> Result<(), Refusal>
         ensures joined { OnOk result ((deltas : List Entries)
             × NextSays self.old.ended self.old.told (without_return self.old.session.line) self.new.told deltas
@@ -175,7 +177,7 @@ impl Intake {
         Ok(())
     }
 
-    /// At the end of the input: takes in what remains, if it is a line.
+    /// Takes in what remains at the end of the input, if it is a line.
     fn finish(&mut self) -> Result<(), SquashFault>
         ensures together { OnOk result ((read : List ℕ)
             → StandsAfter read self.old.session.pending self.old.told (state_at self.old.state) self.old.ended
@@ -226,11 +228,10 @@ fn read_on<S: Source>(intake: &mut Intake, source: &mut S) -> Result<(), SquashF
     }
 }
 
-/// What all lines of a source say together, and the replica that the first one tells, if it does: its bytes are read to
-/// their end.
+/// Reads a source to its end, and returns the replica that its first line tells and the join of all its lines.
 ///
-/// Refused as `Line` at the first line that isn't empty and no delta's, nor tells a replica as the first one, as
-/// `Source` where the source fails, and as `Memory`.
+/// Fails as `Line` at the first line that isn't empty and is no delta's, unless it is the first of all and tells a
+/// replica. Fails as `Source` if the source fails, and as `Memory`.
 ///
 /// Cost: that of the lines, of joining their deltas, the room of one line, and that of a decoder.
 pub(crate) fn taken_in<S: Source>(
@@ -258,7 +259,7 @@ pub(crate) fn taken_in<S: Source>(
     }
 }
 
-/// No line is taken in yet.
+/// Creates an intake that has taken in no line.
 fn begin(alloc: Global) -> Result<Intake, SquashFault>
     ensures stands { IfOk result (λ intake.
         StandsAfter [] intake.session.pending intake.told (state_at intake.state) intake.ended) }

@@ -1,4 +1,4 @@
-//! As few lines as cells need.
+//! Writes cells as few lines.
 ghost use Rattle.std.specs.Prelude.{◌≡◌, ◌≢◌, ◌⊎◌, ◌+◌, ◌<◌, ◌≤◌, ◌++◌, List, Err, IfOk, IfErr, OnOk, length};
 ghost use Rattle.std.specs.Prelude.{◌∷◌, [], map as each, take, sum_by};
 ghost use Rattle.std.specs.List.{All};
@@ -17,9 +17,9 @@ use ps_lines::put_push_line;
 use ps_wire::{DELTA_LINE_LIMIT, encode};
 use std::alloc::Global;
 
-/// Appends the lines that push the cells, as few as there is room for: each has as many cells as it can, in order.
+/// Appends the lines that push the cells, in order, each with as many cells as fit.
 ///
-/// Refused as `TooLong` where one cell alone has no line, and when out of memory.
+/// Fails as `TooLong` if one cell alone has no line, and as `Memory`.
 ///
 /// Cost: twice that of the text, and as much memory.
 pub(crate) fn put_lines(
@@ -39,7 +39,7 @@ pub(crate) fn put_lines(
     }
 }
 
-/// How long the text of each cell is. Refused as `TooLong` where one of them has no line by itself.
+/// Returns how many bytes the text of each cell has. Fails as `TooLong` if one of them has no line by itself.
 fn sizes_of(alloc: Global, entries: &[(Cell, CellState)]) -> Result<Vec<usize>, Refusal>
     requires entries { AreEntries entries.now }
     ensures sizes { IfOk result (λ sizes. sizes.items ≡ each cell_size entries.now) }
@@ -57,7 +57,7 @@ fn sizes_of(alloc: Global, entries: &[(Cell, CellState)]) -> Result<Vec<usize>, 
     Ok(sizes)
 }
 
-/// How long the text of the cell is. Refused as `TooLong` where it has no line by itself.
+/// Returns how many bytes the text of the cell has. Fails as `TooLong` if it has no line by itself.
 fn size_of(alloc: Global, entry: &(Cell, CellState)) -> Result<usize, Refusal>
     requires some { entry.now.1 ≢ empty_cell }
     ensures size { IfOk result (λ n. n ≡ cell_size entry.now) }
@@ -72,7 +72,7 @@ fn size_of(alloc: Global, entry: &(Cell, CellState)) -> Result<usize, Refusal>
     Ok(line.len() - 2)
 }
 
-/// The delta of this cell alone.
+/// Returns the delta of this cell alone.
 fn delta_of_one(alloc: Global, entry: &(Cell, CellState)) -> Result<Delta, Refusal>
     requires { entry.now.1 ≢ empty_cell }
     ensures delta { IfOk result (λ d. d ≡ entry.now ∷ []) }
@@ -82,7 +82,7 @@ fn delta_of_one(alloc: Global, entry: &(Cell, CellState)) -> Result<Delta, Refus
     Ok(Delta::of_filled(entry.0, state))
 }
 
-/// The delta of these cells.
+/// Returns the delta of these cells.
 fn delta_of(alloc: Global, entries: &[(Cell, CellState)]) -> Result<Delta, Refusal>
     requires { IsDelta entries.now }
     ensures delta { IfOk result (λ d. d ≡ entries.now) }
@@ -96,7 +96,7 @@ fn delta_of(alloc: Global, entries: &[(Cell, CellState)]) -> Result<Delta, Refus
     Ok(delta.unwrap())
 }
 
-/// Appends the lines that push the cells, whose texts are so long: each has as many cells as it can.
+/// Appends the lines that push the cells, each with as many cells as fit; `sizes` are the lengths of their texts.
 fn divide(
     alloc: Global,
     entries: &[(Cell, CellState)],
@@ -122,7 +122,7 @@ fn divide(
     Ok(())
 }
 
-/// Of how many cells, from the first on, one line has room for the texts.
+/// Returns how many cells, from the first on, have texts that fit on one line.
 fn count_with_room(sizes: &[usize]) -> usize
     requires fit { All (λ n. n + 2 ≤ DELTA_LINE_LIMIT) sizes.now }
     ensures some { 0 < length sizes.now → 0 < result }

@@ -1,4 +1,4 @@
-//! A source of lines, and the fewer lines that say the same.
+//! Squashes a whole source of lines.
 ghost use Rattle.std.specs.Prelude.{◌≡◌, ◌≢◌, ◌⊎◌, ◌<◌, ◌∷◌, ℕ, List, [], Err, IfErr, IfOk, OnOk, take};
 ghost use Rattle.std.specs.Io.KnownBytes.{Appends, Consumes, IsAtEnd};
 ghost use Rattle.ps_grid.specs.declared.refusal.Refusal.TheVariants as refusals;
@@ -17,13 +17,20 @@ use ps_grid::Refusal;
 use ps_lines::put_replica_line;
 use std::alloc::Global;
 
-/// Reads the lines of a source to its end, each a delta's line with or without the word `push` before it, and writes
-/// the lines that push the cells of their join: as many cells in each as it has room for. Where the first line is that
-/// of a kept file, as `replica 1`, it is written before them. At the end all that was written is handed on.
+/// Reads the delta lines of a source to its end, writes the lines that push their join, and flushes the sink.
 ///
-/// Nothing is written before all lines are read. Refused as `Line` at the first line that isn't empty and no delta's,
-/// nor tells a replica as the first one; as `TooLong` where a cell alone has no line, which takes lines that break the
-/// rules of sequences, and as `Memory`, each with nothing written; as `Source` and `Sink` where one of the two fails.
+/// A line that is read may have the word `push` before its delta. Each line that is written has as many cells as fit.
+/// If the first line read is that of a kept file, such as `replica 1`, it is written before them. Nothing is written
+/// before all lines are read.
+///
+/// # Errors
+///
+/// - `Line`: a line isn't empty and is no delta's, nor tells a replica as the first line; the number is that of the
+///   first such line.
+/// - `TooLong`: a cell alone has no line; this takes lines that break the rules of sequences.
+/// - `Memory`: out of memory.
+/// - `Source`: the source failed.
+/// - `Sink`: the sink failed, after a beginning of the lines. After any other error nothing was written.
 ///
 /// Cost: that of the lines and of joining their deltas, the cells of the grid, and twice the text that is written;
 /// memory for the joined state, one line, and the text.
@@ -65,7 +72,7 @@ pub fn squash<S: Source, K: Sink>(
     }
 }
 
-/// The lines that say the same as those of the source, and whose they are.
+/// Returns the lines that say the same as those of the source, after the line of their replica.
 fn squashed<S: Source>(alloc: Global, source: &mut S) -> Result<Vec<u8>, SquashFault>
     ensures squashed { IfOk result (λ text. (read : List ℕ)
         × Consumes (S.remaining source.old) (S.remaining source.new) read × IsAtEnd (S.remaining source.new)
@@ -92,7 +99,7 @@ fn squashed<S: Source>(alloc: Global, source: &mut S) -> Result<Vec<u8>, SquashF
     }
 }
 
-/// The line of the replica, where there is one, and those that push what the cells of a state hold.
+/// Returns the line of the replica, if there is one, and the lines that push the cells of a state.
 fn text_of(alloc: Global, told: Option<u8>, state: &Grid) -> Result<Vec<u8>, Refusal>
     ensures same { IfOk result (λ text. IsText told (state_at state.now) text.items) }
     ensures wide { IfErr result (λ e. e ≡ refusals.TooLong
@@ -107,7 +114,7 @@ fn text_of(alloc: Global, told: Option<u8>, state: &Grid) -> Result<Vec<u8>, Ref
     }
 }
 
-/// The text that begins with the line of a replica, where there is one.
+/// Returns a text that begins with the line of a replica, if there is one.
 fn begun(alloc: Global, told: Option<u8>) -> Result<Vec<u8>, Refusal>
     ensures line { IfOk result (λ text. text.items ≡ told_line told) }
     ensures memory { IfErr result (λ e. e ≡ refusals.Memory) }

@@ -11,14 +11,14 @@ ghost use Rattle.ps_tokens.specs.Inside.Lexing.{token_of_one, unmarked};
 use crate::token::{FUNCTIONS, Function, Operator, Token};
 use ps_grid::{Cell, Rect};
 
-/// The byte at a place, 0 past the end.
+/// Returns the byte at a position, and 0 past the end.
 pub(crate) fn byte_at(text: &[u8], place: usize) -> u8
     ensures { result ≡ slice_index text.now place }
 {
     if place < text.len() { text[place] } else { 0 }
 }
 
-/// The text from a place on, nothing past the end.
+/// Returns the text from a position on, and an empty text past the end.
 pub(crate) fn from(text: &[u8], place: usize) -> &[u8]
     ensures { result.now ≡ drop place text.now }
 {
@@ -61,7 +61,7 @@ fn digits_at(text: &[u8]) -> usize
     text.iter().take_while(|byte| byte.is_ascii_digit()).count()
 }
 
-/// How many capital letters stand at the front, of which two are counted at most.
+/// How many capital letters stand at the front, at most two: a column has no more.
 #[inline(always)]
 fn capitals_at(text: &[u8]) -> usize
     ensures count { result ≡ capitals_at text.now }
@@ -105,7 +105,7 @@ fn number(digits: &[u8]) -> Option<u64>
     Some(value)
 }
 
-/// The corner at the front. Its `$` are read and not kept.
+/// The corner at the front, without the `$` that mark it as fixed.
 #[tactic(auto, unfolding(crate::specs::Inside::Lexing::corner_at))]
 fn corner(text: &[u8]) -> Option<(Cell, &[u8])>
     ensures { option_map (λ found. (found.0, found.1.now)) result ≡ corner_at text.now }
@@ -118,7 +118,7 @@ fn corner(text: &[u8]) -> Option<(Cell, &[u8])>
     Some((cell, rest))
 }
 
-/// The reference whose corner was read, where its bracket is closed.
+/// The reference whose corner was read, if its bracket is closed.
 #[tactic(auto, unfolding(crate::specs::Inside::Lexing::reference_at))]
 fn reference(corner: Cell, text: &[u8]) -> Option<(Token, &[u8])>
     ensures { option_map (λ found. (found.0, found.1.now)) result ≡ reference_at corner text.now }
@@ -221,7 +221,7 @@ fn token_of_one(byte: u8) -> Option<Token>
     }
 }
 
-/// The operator, the parenthesis or the separator at the front, of two bytes where it can be.
+/// The operator, parenthesis or separator at the front. Two bytes are read as one operator where they are one.
 #[tactic(auto, unfolding(crate::specs::Inside::Lexing::sign_at))]
 fn sign(text: &[u8]) -> Option<(Token, &[u8])>
     ensures { option_map (λ found. (found.0, found.1.now)) result ≡ sign_at text.now }
@@ -233,7 +233,7 @@ fn sign(text: &[u8]) -> Option<(Token, &[u8])>
     Some((token, from(text, 1)))
 }
 
-/// The longest token at the front of the text, and the text after it.
+/// Returns the longest token at the front of the text, and the text after it.
 #[tactic(auto, unfolding(crate::specs::Inside::Lexing::token_at))]
 pub(crate) fn token(text: &[u8]) -> Option<(Token, &[u8])>
     ensures { option_map (λ found. (found.0, found.1.now)) result ≡ token_at text.now }

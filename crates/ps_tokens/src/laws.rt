@@ -1,22 +1,18 @@
-//! Laws of the spelling of tokens.
+//! Laws of the spelling of tokens. Each function does nothing: its contract is the law.
 
 ghost use Rattle.std.specs.Prelude.{◌≡◌, ℕ, List};
 ghost use Rattle.ps_tokens.specs.Apart.{AreApart};
 ghost use Rattle.ps_tokens.specs.Text.{Spells, tokens_text};
 ghost use Rattle.ps_tokens.specs.declared.token.Token.{Token};
 
-/// A text spells at most one list of tokens in which no two neighbours could be read as one.
-///
-/// Cost: nothing is done.
+/// States that a text spells at most one list of tokens in which no two neighbours could be read as one.
 #[tactic(auto, using(crate::proofs::OneSpelling::one_spelled))]
 pub fn one_spelling()
     ensures { (text : List ℕ) (ts us : List Token)
         → Spells text ts → AreApart ts → Spells text us → AreApart us → ts ≡ us }
 {}
 
-/// Tokens that some text spells are spelled by their canonical text, one after another.
-///
-/// Cost: nothing is done.
+/// States that tokens spelled by some text are spelled by their canonical text too.
 #[tactic(auto, using(crate::proofs::CanonicalSpelling::text_spells))]
 pub fn canonical_spelling()
     ensures { (text : List ℕ) (ts : List Token) → Spells text ts → Spells (tokens_text ts) ts }

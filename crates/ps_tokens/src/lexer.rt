@@ -18,9 +18,15 @@ fn is_blank(byte: u8) -> bool
     byte == b' ' || byte == b'\t' || byte == b'\n' || byte == b'\r'
 }
 
-/// The tokens that the text spells, with blanks anywhere between them; refused as a formula where it spells
-/// none. From the left on, the longest token is read at each place, so that `<=` is one operator and `12` one
-/// numeral; this finds a list of tokens in which no two neighbours could be read as one.
+/// Returns a list of tokens that the text spells, with blanks anywhere between them.
+///
+/// From the left on, the longest token is read at each position, so `<=` is one operator and `12` one numeral. If the
+/// text spells a list in which no two neighbours could be read as one token, the result is that list.
+///
+/// # Errors
+///
+/// - `Formula`: the text spells no such list.
+/// - `Memory`: out of memory.
 ///
 /// Cost: linear in the bytes, one allocation.
 pub fn tokens(alloc: Global, text: &[u8]) -> Result<Vec<Token>, Refusal>

@@ -76,7 +76,7 @@ pub enum Operator {
     GreaterOrEqual,
 }
 
-/// A token of a formula: what it means and not how it was spelled.
+/// A token of a formula: its meaning, whatever its spelling.
 #[derive(Clone, Copy, Debug, PartialEq, Eq)]
 pub enum Token {
     /// A whole number, from 0 to 9223372036854775807.
@@ -98,9 +98,7 @@ pub enum Token {
 }
 
 impl Function {
-    /// The name of the function, in upper case.
-    ///
-    /// Cost: constant.
+    /// Returns the name of the function, in upper case.
     pub fn name(self) -> &'static str
         ensures { result.now ≡ function_name self }
     {
@@ -123,9 +121,7 @@ impl Function {
 }
 
 impl Operator {
-    /// How the operator is written.
-    ///
-    /// Cost: constant.
+    /// Returns how the operator is written.
     pub fn text(self) -> &'static str
         ensures { result.now ≡ operator_text self }
     {

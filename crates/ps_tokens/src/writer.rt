@@ -10,7 +10,7 @@ use crate::token::Token;
 use itoa::Buffer;
 use ps_grid::{Cell, NAME_BYTES, Rect, Refusal};
 
-/// Writes the bytes, or nothing where it is refused.
+/// Writes the bytes, or nothing where that is refused.
 fn put(out: &mut Vec<u8>, text: &[u8]) -> Result<(), Refusal>
     ensures ok { OnOk result (out.new.items ≡ out.old.items ++ text.now) }
     ensures err { OnErr result (out.new.items ≡ out.old.items) }
@@ -31,7 +31,7 @@ fn put_cell(out: &mut Vec<u8>, cell: Cell) -> Result<(), Refusal>
     put(out, &name[..length])
 }
 
-/// Writes a reference. Where it is refused, a part of it may stand after what was there.
+/// Writes a reference. Where that is refused, a part of it may stand at the end of `out`.
 fn put_reference(out: &mut Vec<u8>, cell: Cell) -> Result<(), Refusal>
     ensures ok { OnOk result (out.new.items ≡ out.old.items ++ (codes "[." ++ (cell_name cell ++ codes "]"))) }
     ensures err { OnErr result (take (length out.old.items) out.new.items ≡ out.old.items) }
@@ -42,7 +42,7 @@ fn put_reference(out: &mut Vec<u8>, cell: Cell) -> Result<(), Refusal>
     put(out, b"]")
 }
 
-/// Writes a range, as `put_reference` a reference.
+/// Writes a range. Where that is refused, a part of it may stand at the end of `out`.
 fn put_range(out: &mut Vec<u8>, rect: Rect) -> Result<(), Refusal>
     ensures ok { OnOk result (out.new.items ≡ out.old.items
         ++ (codes "[." ++ (cell_name (first_cell rect) ++ (codes ":." ++ (cell_name (last_cell rect) ++ codes "]"))))) }
@@ -56,7 +56,7 @@ fn put_range(out: &mut Vec<u8>, rect: Rect) -> Result<(), Refusal>
     put(out, b"]")
 }
 
-/// Writes a token. Where it is refused, a part of it may stand after what was there.
+/// Writes a token. Where that is refused, a part of it may stand at the end of `out`.
 fn put_spelling(out: &mut Vec<u8>, token: &Token) -> Result<(), Refusal>
     ensures ok { OnOk result (out.new.items ≡ out.old.items ++ token_text token.now) }
     ensures err { OnErr result (take (length out.old.items) out.new.items ≡ out.old.items) }
@@ -74,9 +74,9 @@ fn put_spelling(out: &mut Vec<u8>, token: &Token) -> Result<(), Refusal>
     }
 }
 
-/// Writes the canonical spelling of the token after what is there; refused only when out of memory.
+/// Appends the canonical spelling of the token. Refused only when out of memory, and then nothing is written.
 ///
-/// Cost: constant, but for the growth of the list.
+/// Cost: constant, apart from growing the list.
 pub fn put_token(out: &mut Vec<u8>, token: &Token) -> Result<(), Refusal>
     ensures ok { OnOk result (out.new.items ≡ out.old.items ++ token_text token.now) }
     ensures err { OnErr result (out.new.items ≡ out.old.items) }

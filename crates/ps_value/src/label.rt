@@ -16,7 +16,7 @@ use std::marker::Model;
 
 /// A short text of one line: 1 to 64 bytes of UTF-8, without the bytes below 32 and without 127.
 ///
-/// It is kept in place, so it is `Copy` and takes no memory. Labels are ordered by their bytes.
+/// The bytes lie in the value itself, so a label is `Copy` and takes no memory. Labels are ordered by their bytes.
 #[derive(Clone, Copy)]
 pub struct Label {
     /// the bytes, and zeros after them
@@ -42,9 +42,9 @@ impl Model for Label {
 }
 
 impl Label {
-    /// The label of these bytes, if they are one.
+    /// Returns the label of these bytes; `None` where they are no label.
     ///
-    /// Cost: O(n) in the bytes, no memory.
+    /// Cost: linear in the bytes, no memory.
     pub fn new(bytes: &[u8]) -> Option<Label>
         ensures labels { IsSome result ↔ IsLabel bytes.now }
         ensures bytes { IfSome result (λ label. label ≡ bytes.now) }
@@ -58,9 +58,7 @@ impl Label {
         })
     }
 
-    /// The bytes of the text.
-    ///
-    /// Cost: O(1).
+    /// Returns the bytes of the text.
     pub fn bytes(&self) -> &[u8]
         ensures bytes { result.now ≡ self.now }
         ensures label { IsLabel self.now }

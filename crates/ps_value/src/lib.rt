@@ -1,15 +1,15 @@
 //! The values that cells show, and their text.
 //!
-//! It is not what a cell holds: it knows no formulas, no edits and no replicas.
+//! It knows no formulas, no edits and no replicas: what a cell holds stands elsewhere.
 //!
 //! The value `Choice` with bits 1 and 4 set is shown as `{1,4}`, and the fault of a division by zero
 //! as `#DIV/0!`.
 //!
-//! The contract to use is that of `write_shown`: it writes exactly `shown_text` of the value, or returns `Device`, and
+//! The contract to use is that of `write_shown`. It writes exactly `shown_text` of the value, or returns `Device`, and
 //! that only where the sink's count of failures rose.
 //!
-//! Cost: a value is copied in constant time and takes no memory. A `SharedLabel` is a label on the heap that any number
-//! of owners share: one allocation for all of them.
+//! Cost: a value is copied in constant time and takes no memory. A `SharedLabel` is a label on the heap with any number
+//! of owners: one allocation for all of them.
 #![tactic(auto)]
 
 mod label;

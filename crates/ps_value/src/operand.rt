@@ -4,24 +4,21 @@ ghost use Rattle.ps_value.specs.Operand.{operand_of};
 
 use crate::value::{Fault, Value};
 
-/// What evaluation reads of what a cell shows. A text's bytes are no part of it, and of chosen options only their
-/// number.
+/// The part of a shown value that evaluation reads. It has no bytes of a text, and only the number of chosen options.
 #[derive(Clone, Copy, PartialEq, Eq, Debug)]
 pub enum Operand {
-    /// Nothing is shown.
+    /// An empty cell.
     Empty,
-    /// A text is shown.
+    /// A text.
     Text,
     /// A number, or how many options are chosen.
     Num(i64),
-    /// No number is shown, and why.
+    /// A fault in place of a number.
     Err(Fault),
 }
 
 impl Value {
-    /// What evaluation reads of the value.
-    ///
-    /// Cost: constant.
+    /// Returns the part of the value that evaluation reads.
     #[inline]
     pub fn operand(self) -> Operand
         ensures { result ≡ operand_of self }

@@ -10,7 +10,7 @@ use std::alloc::Global;
 use std::marker::Model;
 use std::sync::Arc;
 
-/// A label with any number of owners. A contract sees it as the label's bytes, whoever shares it.
+/// A label with any number of owners. A contract sees it as the bytes of the label, whoever owns it.
 #[derive(Drop)]
 pub struct SharedLabel {
     label: Arc<Label>,
@@ -27,7 +27,7 @@ impl Model for SharedLabel {
 }
 
 impl SharedLabel {
-    /// The label, with one owner. Refused only when out of memory.
+    /// Creates a shared label with one owner. Refused only when out of memory.
     ///
     /// Cost: one allocation.
     pub fn new(alloc: Global, label: Label) -> Result<SharedLabel, Refusal>
@@ -38,9 +38,7 @@ impl SharedLabel {
         Ok(SharedLabel { label })
     }
 
-    /// The label that is shared.
-    ///
-    /// Cost: constant.
+    /// Returns the label.
     pub fn label(&self) -> &Label
         ensures { result.now ≡ self.now }
     {
@@ -48,7 +46,7 @@ impl SharedLabel {
     }
 }
 
-/// One more owner of the same label. No memory is taken.
+/// A twin is one more owner of the same label, and takes no memory.
 impl Twin for SharedLabel {
     fn twin(&self, alloc: Global) -> Result<SharedLabel, Refusal> {
         let _ = alloc;

@@ -9,12 +9,14 @@ use itoa::{Buffer, Integer};
 use ps_device::{Failed, Sink, put_all};
 use ps_grid::Refusal;
 
-/// Writes the text of the value: nothing, the number in decimal, the bytes of the text, the options
-/// ascending in braces with commas between, or the fault's name.
+/// Writes the text that a cell with this value shows.
 ///
-/// Refused as `Device` where the sink failed, and then some of the text may have been written.
+/// The text is nothing, the number in decimal, the bytes of the text, or the name of the fault. Options are written
+/// ascending, in braces, with commas between.
 ///
-/// Cost: O(n) in the length of the text, no memory.
+/// Refused as `Device` where the sink failed; then some of the text may have been written.
+///
+/// Cost: linear in the length of the text, no memory.
 pub fn write_shown<K: Sink>(value: Value, sink: &mut K) -> Result<(), Refusal>
     ensures shown { Sends (K.contents sink.old) (K.contents sink.new) result (shown_text value) }
     ensures calm { OnOk result (K.failures sink.new ≡ K.failures sink.old) }

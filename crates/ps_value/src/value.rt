@@ -14,9 +14,9 @@ pub enum Fault {
     Cycle,
 }
 
-/// What a cell shows.
+/// The value that a cell shows.
 ///
-/// A value is `Copy` and takes no memory: a text is kept in place, and a choice is 64 bits.
+/// A value is `Copy` and takes no memory: a label lies in the value itself, and a choice is 64 bits.
 #[derive(Clone, Copy, PartialEq, Eq)]
 pub enum Value {
     /// Nothing.
@@ -27,6 +27,6 @@ pub enum Value {
     Text(Label),
     /// The options that are chosen: bit k stands for option k.
     Choice(u64),
-    /// No number can be shown, and why.
+    /// A fault in place of a number.
     Err(Fault),
 }

@@ -18,7 +18,7 @@ use std::alloc::{AllocError, AllocFailed, Global};
 /// read twice, so this bounds the cost of a refused line.
 const FORMULA_BYTES: usize = 65_536;
 
-/// Reads a line in the form that `encode` writes. Returns `None` where the line may have another form.
+/// Reads a line in the form that `encode` writes. Returns `None` if the line may have another form.
 pub(crate) fn read_compact(alloc: Global, line: &[u8]) -> Result<Option<Delta>, Refusal>
     ensures reads { IfOk result (λ found. IfSome found (ReadsAs line.now)) }
     ensures memory { IfErr result (λ e. e ≡ Memory) }
@@ -48,7 +48,7 @@ fn confirm(alloc: Global, delta: Delta, line: &[u8]) -> Result<Option<Delta>, Re
 enum Miss {
     /// The line has another form, or stands for no delta.
     OtherForm,
-    /// A call was refused, out of memory.
+    /// A call failed, out of memory.
     Refused(Refusal),
 }
 
@@ -86,7 +86,7 @@ fn guess(alloc: Global, line: &[u8]) -> Result<Delta, Miss> {
     made(Delta::new(alloc, cells))
 }
 
-/// Returns what a call made that is refused only out of memory.
+/// Returns what a call made that fails only when out of memory.
 #[inline(always)]
 fn made<T>(answer: Result<Option<T>, Refusal>) -> Result<T, Miss> {
     match answer {

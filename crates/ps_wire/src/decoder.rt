@@ -23,9 +23,7 @@ use std::alloc::Global;
 pub struct Decoder {}
 
 impl Decoder {
-    /// Makes a decoder.
-    ///
-    /// Cost: none.
+    /// Creates a decoder.
     pub fn new(_alloc: Global) -> Decoder {
         Decoder {}
     }
@@ -35,7 +33,8 @@ impl Decoder {
     ///
     /// # Errors
     ///
-    /// `Delta` for any other bytes; `Memory` where memory runs out.
+    /// - `Delta` for any other bytes.
+    /// - `Memory` if allocation fails.
     ///
     /// Cost: b, for b bytes of the line. Memory for the delta and its text, if the line is as `encode` writes it; else
     /// for the JSON value and the delta.
@@ -99,7 +98,7 @@ fn read_value(alloc: Global, bytes: &[u8]) -> Result<Value, Refusal>
 
 /// Returns the delta of a line, as [`Decoder::decode`] does.
 ///
-/// It is for whoever has a single line; the program's sessions have a [`Decoder`].
+/// It is for callers with a single line; the program's sessions have a [`Decoder`].
 ///
 /// # Errors
 ///

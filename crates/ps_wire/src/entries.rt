@@ -77,7 +77,7 @@ pub(crate) fn read_entries<E: Entry>(alloc: Global, value: &Value) -> Result<Vec
     Ok(entries)
 }
 
-/// Reads whether a pair is gone: 0 where it was only added, 1 where it was also removed.
+/// Reads whether a pair is gone: 0 if it was only added, 1 if it was also removed.
 fn read_gone(value: &Value) -> Result<bool, Refusal>
     ensures found { IfOk result (λ b. view value.now ≡ whole (gone_number b)) }
     ensures refused { IfErr result (λ r. RefusedSince r ((b : Bool) → view value.now ≡ whole (gone_number b) → ⊥)) }

@@ -1,20 +1,20 @@
 //! Deltas as lines of JSON.
 //!
-//! A delta travels as one line: a JSON array (RFC 8259) of one or more cells, ascending and distinct, each an array of
-//! four: the cell's name, its register, its counters and its pairs.
+//! A delta travels as one line: a JSON array (RFC 8259) of one or more cells, ascending and distinct. Each cell is an
+//! array of four: its name, its register, its counters and its pairs.
 //!
 //! This crate knows no commands, no replies and no sheet. It stores nothing that it has read.
 //!
 //! The contract to use:
 //!
 //! - [`decode`] and a [`Decoder`] return the one delta that the bytes are a line of (`IsLine`). They refuse bytes as no
-//!   delta only where they are a line of none.
+//!   delta only if they are a line of none.
 //! - [`encode`] appends the delta's compact text, which is a line of it and has no line feed
-//!   ([`delta_texts_are_one_line`]). It refuses a delta only where that text is too long; [`decoded_lines_fit`] and
+//!   ([`delta_texts_are_one_line`]). It refuses a delta only if that text is too long; [`decoded_lines_fit`] and
 //!   [`edited_lines_fit`] say which deltas never are.
-//! - [`fits_line`] returns whether a delta's text fits a line, without writing it; [`outgrows_line`] whether a delta
-//!   holds so much that no join with it has a line; [`may_share_line`] how many deltas may have a line together, as far
-//!   as it can tell without joining them.
+//! - [`fits_line`] returns whether a delta's text fits a line, without writing it.
+//! - [`outgrows_line`] returns whether a delta holds so much that no join with it has a line.
+//! - [`may_share_line`] returns how many deltas may have a line together, judged without joining them.
 //!
 //! Say `A1` holds 5, assigned at the time 1 by the replica 2. That delta has the line `[["A1",[1,2,"5"],[],[]]]`. Every
 //! other spelling of the same JSON value, as one with blanks between the tokens, is a line of it, too.
@@ -24,8 +24,8 @@
 //! guessed, and the guess is right if serde_json writes the same bytes for it. Any other line is read as a
 //! `serde_json::Value`, and the delta is taken from that tree.
 //!
-//! Cost: time linear in the line either way. Memory for the line where it is written; where it is read, for the delta
-//! and its line, or for the tree of values.
+//! Cost: time linear in the line either way. Writing takes memory for the line. Reading takes memory for the delta and
+//! its line, or for the tree of values.
 #![tactic(auto)]
 
 mod cells;

@@ -17,10 +17,11 @@ use std::alloc::Global;
 ///
 /// # Errors
 ///
-/// `TooLong` where that text has more than `DELTA_LINE_LIMIT` bytes; else `Memory` where memory runs out.
+/// - `TooLong` if that text has more than `DELTA_LINE_LIMIT` bytes.
+/// - `Memory` if allocation fails.
 ///
-/// Cost: t, for t bytes of the text; memory for them, twice where the line isn't empty. A text that is too long costs
-/// what a line may hold, and no memory.
+/// Cost: t, for t bytes of the text; memory for them, twice if the line isn't empty. A text that is too long costs what
+/// a line may hold, and no memory.
 #[tactic(auto, using(crate::proofs::SentLemmas::text_is_line))]
 pub fn encode(alloc: Global, delta: &Delta, line: &mut Vec<u8>) -> Result<(), Refusal>
     ensures appended { OnOk result (line.new.items ≡ line.old.items ++ delta_text delta.now) }
@@ -45,7 +46,7 @@ pub fn encode(alloc: Global, delta: &Delta, line: &mut Vec<u8>) -> Result<(), Re
 
 /// Returns the text that serde_json writes for the delta.
 ///
-/// Only memory fails it: a delta has no map whose key isn't a text, and no number that JSON can't write.
+/// It fails only when out of memory: a delta has no map whose key isn't a text, and no number that JSON can't write.
 pub(crate) fn compact_text(alloc: Global, delta: &Delta) -> Result<Vec<u8>, Refusal>
     ensures text { IfOk result (λ text. text.items ≡ delta_text delta.now) }
     ensures lawful { OnOk result (IsLawful delta.now) }

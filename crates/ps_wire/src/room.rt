@@ -1,4 +1,4 @@
-//! Whether a line has room for a delta. Bytes are counted only where the cells aren't all brief.
+//! Whether a line has room for a delta. Bytes are counted only if some cell isn't brief.
 
 ghost use Rattle.std.specs.Prelude.{◌↔◌, ◌<◌, ◌≤◌, map as each, IsTrue};
 ghost use Rattle.std.specs.Bool.{OnTrue};
@@ -20,7 +20,7 @@ use ps_lattice::Register;
 /// arrays.
 const BRIEF_CELL: usize = 62;
 
-/// So many brief cells have room in a line, with two brackets and a comma after each.
+/// The brief cells for which a line has room, with two brackets and a comma after each.
 const BRIEF_CELLS: usize = (DELTA_LINE_LIMIT - 2) / BRIEF_CELL;
 
 /// Returns whether the compact text of the delta is short enough for a line.

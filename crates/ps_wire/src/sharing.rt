@@ -1,4 +1,4 @@
-//! How many deltas may share a line, as far as the lengths of their contents tell.
+//! How many deltas may share a line, judged by the lengths of their contents.
 
 ghost use Rattle.std.specs.Prelude.{◌≡◌, ◌↔◌, ℕ, ◌+◌, ◌-◌, ◌<◌, ◌≤◌, None, IsTrue, IfOk, IfErr, IfSome, length};
 ghost use Rattle.std.specs.Prelude.{sum_by, take};
@@ -14,16 +14,18 @@ use ps_delta::{CellState, Delta};
 use ps_grid::{CELLS, Cell, Refusal};
 use std::alloc::Global;
 
-/// The contents of so many cells always have room in one line, where no byte is escaped.
+/// The number of cells whose contents always fit one line, if no byte is escaped.
 const FEW_CELLS: usize = 512;
 
-/// How many of the deltas may share a line: however many more of them are joined, but at most so many, each cell then
-/// holds one of its contents in them, and the shortest of these are too long together.
+/// Returns how many of the first `most` deltas may share a line.
 ///
-/// Refused only when out of memory.
+/// A join of more of them, up to `most`, has no line. Each cell of it holds one of the cell's contents in these deltas,
+/// and the shortest of these contents are too long together. The deltas aren't joined to find that.
 ///
-/// Cost: the cells of the deltas and of the grid, and memory for the grid's; for one delta, and for deltas of few
-/// cells, their number.
+/// Fails only when out of memory.
+///
+/// Cost: the cells of the deltas and of the grid, and memory for the grid's. For one delta, and for deltas of few
+/// cells, only their number.
 pub fn may_share_line(alloc: Global, deltas: &[Delta], most: usize) -> Result<usize, Refusal>
     ensures most { IfOk result (λ n. n ≤ most) }
     ensures within { IfOk result (λ n. n ≤ length deltas.now) }
@@ -40,7 +42,7 @@ pub fn may_share_line(alloc: Global, deltas: &[Delta], most: usize) -> Result<us
     Ok(room_for(group, &mut floors))
 }
 
-/// Whether the deltas have more than so many cells, where one counts as often as it comes.
+/// Whether the deltas have more than `most` cells, where a cell counts as often as it comes.
 fn have_more_cells(deltas: &[Delta], most: usize) -> bool
     ensures { IsTrue result ↔ (most < sum_by length deltas.now) }
 {
@@ -54,7 +56,7 @@ fn have_more_cells(deltas: &[Delta], most: usize) -> bool
     false
 }
 
-/// For each cell of the grid the least that any of the deltas takes for its content.
+/// For each cell of the grid the fewest bytes that any of the deltas takes for its content.
 fn floors_of(alloc: Global, deltas: &[Delta]) -> Result<Vec<usize>, Refusal>
     ensures whole { IfOk result (λ floors. length floors.items ≡ CELLS) }
     ensures floors { IfOk result (λ floors. AreFloors floors.items deltas.now) }
@@ -80,7 +82,7 @@ fn lower(cells: &[(Cell, CellState)], floors: &mut [usize])
     }
 }
 
-/// At least so many bytes of a line are a cell's that holds this state's content: two brackets, three commas, the
+/// The fewest bytes of a line for a cell that holds this state's content. They include two brackets, three commas, the
 /// quotes of its name, the brackets of its counts and pairs, and what comes after it.
 fn cell_floor(state: &CellState) -> usize
     ensures { result ≡ cell_floor state.now }
@@ -88,7 +90,7 @@ fn cell_floor(state: &CellState) -> usize
     12 + unescaped_size(state.parts().0)
 }
 
-/// How many of the deltas a line has room for, by the floors of their cells, which it takes away.
+/// How many of the deltas a line has room for, by the floors of their cells. It clears these floors.
 fn room_for(deltas: &[Delta], floors: &mut [usize]) -> usize
     requires whole { length floors.old ≡ CELLS }
     ensures within { result ≤ length deltas.now }
@@ -108,7 +110,7 @@ fn room_for(deltas: &[Delta], floors: &mut [usize]) -> usize
     count
 }
 
-/// What is left of so much room after the floors of the cells, if there is so much. They are taken away, so that each
+/// What is left of `room` after the floors of the cells; none if they need more. The floors are cleared, so that each
 /// counts once.
 fn spend(cells: &[(Cell, CellState)], floors: &mut [usize], room: usize) -> Option<usize>
     requires whole { length floors.old ≡ CELLS }

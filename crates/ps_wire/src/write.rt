@@ -190,7 +190,7 @@ fn send_text<S: Serializer>(text: &[u8], out: &mut S) -> Result<(), S::Error>
     out.str(str::from_utf8(text).unwrap())
 }
 
-/// Returns 1 where a pair is gone, else 0.
+/// Returns 1 if a pair is gone, else 0.
 fn gone_number(gone: bool) -> u64
     ensures { result ≡ gone_number gone }
 {

@@ -1,5 +1,5 @@
 -- The command line of the program, as `clap` sees it, and what its matches give.
-use Rattle.std.specs.Prelude.{◌≡◌, ⊤, ℕ, Bool, true, false, List, [], ◌∷◌, Option, Some, None, bytes_eq, codes, pos}
+use Rattle.std.specs.Prelude.{◌≡◌, ℕ, Bool, true, false, List, [], ◌∷◌, Option, Some, None, bytes_eq, codes, pos}
 use Rattle.std.specs.Borrow.{Bor}
 use Rattle.std.specs.Prelude.{option_map}
 use Rattle.std.specs.Str.Parse.{digits_value, without_leading_plus}
@@ -22,7 +22,7 @@ ranged_option id least most = record (new_rule id) {
   parser = Some (vp.Signed (pos least) (pos most));
 }
 
--- .. and is this then
+-- .. and is `usual` when left out
 abbrev pub usual_option : Text → ℕ → ℕ → Text → Rule
 usual_option id least most usual = record (ranged_option id least most) { defaults = usual ∷ [] }
 
@@ -45,7 +45,8 @@ flag_option id = record (new_rule id) { long = Some id; action = Some SetTrue }
 -- a command with the options of one that opens a sheet
 abbrev pub with_sheet_options : App → App
 with_sheet_options app =
-    with_rule (with_rule app (number_option (codes "workers") WORKERS)) (number_option (codes "replica") REPLICAS)
+    with_rule (with_rule (with_rule app (number_option (codes "workers") WORKERS))
+    (number_option (codes "replica") REPLICAS)) (flag_option (codes "squash"))
 
 abbrev pub run_app : App
 run_app = with_rule (with_rule (with_rule (with_sheet_options (new_app (codes "run"))) (flag_option (codes "explain")))
@@ -60,7 +61,7 @@ serve_app = with_sheet_options (with_rule (with_rule (with_rule (with_rule (with
     (new_app (codes "serve"))
     (needed_option (codes "port") LAST_PORT))
     (ranged_option (codes "sessions") 1 MOST_SESSIONS))
-    (usual_option (codes "seats") 1 SEATS (codes "16")))
+    (usual_option (codes "seats") 1 SEATS (codes "64")))
     (usual_option (codes "wait") 0 LONGEST_WAIT (codes "5")))
     (ranged_option (codes "idle") 1 LONGEST_IDLE))
     (flag_option (codes "explain")))
@@ -82,7 +83,7 @@ talk_app = with_rule (with_rule (new_app (codes "talk")) (needed_option (codes "
     (flag_option (codes "explain"))
 
 abbrev pub squash_app : App
-squash_app = new_app (codes "squash")
+squash_app = with_rule (new_app (codes "squash")) (text_option (codes "keep"))
 
 -- the program has one of the commands, and a version
 abbrev pub sheet_app : App
@@ -120,14 +121,14 @@ name_of (Serve o) = codes "serve"
 name_of (Sync o) = codes "sync"
 name_of (Follow o) = codes "follow"
 name_of (Talk o) = codes "talk"
-name_of Squash = codes "squash"
+name_of (Squash o) = codes "squash"
 
 -- among a command's matches its options have these numbers and texts, and its flags are set so
 abbrev pub GivesNumbers : List Row → Options → Type 0
 GivesNumbers rows (Run o) = GivesNumber rows (codes "workers") o.sheet.workers
     × GivesNumber rows (codes "replica") o.sheet.replica
     × GivesFlag rows (codes "explain") o.explain × GivesFlag rows (codes "strict") o.strict
-    × GivesText rows (codes "keep") o.keep
+    × GivesText rows (codes "keep") o.keep × GivesFlag rows (codes "squash") o.sheet.squash
 GivesNumbers rows (Table o) = GivesNumber rows (codes "workers") o.workers
     × GivesFlag rows (codes "entries") o.entries × GivesFlag rows (codes "explain") o.explain
 GivesNumbers rows (Serve o) = GivesNumber rows (codes "port") o.port × GivesCount rows (codes "sessions") o.sessions
@@ -135,12 +136,13 @@ GivesNumbers rows (Serve o) = GivesNumber rows (codes "port") o.port × GivesCou
     × GivesCount rows (codes "idle") o.idle × GivesFlag rows (codes "explain") o.explain
     × GivesText rows (codes "keep") o.keep × GivesText rows (codes "title") o.title
     × GivesNumber rows (codes "workers") o.sheet.workers × GivesNumber rows (codes "replica") o.sheet.replica
+    × GivesFlag rows (codes "squash") o.sheet.squash
 GivesNumbers rows (Sync o) = GivesNumber rows (codes "from") o.from × GivesNumber rows (codes "to") o.to
     × GivesFlag rows (codes "explain") o.explain
 GivesNumbers rows (Follow o) = GivesNumber rows (codes "from") o.from × GivesFlag rows (codes "until-now") o.until_now
     × GivesNumber rows (codes "every") o.every × GivesFlag rows (codes "explain") o.explain
 GivesNumbers rows (Talk o) = GivesNumber rows (codes "to") o.to × GivesFlag rows (codes "explain") o.explain
-GivesNumbers rows Squash = ⊤
+GivesNumbers rows (Squash o) = GivesText rows (codes "keep") o.keep
 
 -- the matches are those of the command with its numbers
 abbrev pub GivesOptions : Option (Text × List Row) → Options → Type 0

@@ -5,7 +5,7 @@ ghost use Rattle.clap.specs.declared.builder.command.Command.TheViews.{out-Comma
 ghost use Rattle.ps_words.specs.Words.{flag_option, needed_option, number_option, ranged_option, text_option};
 ghost use Rattle.ps_words.specs.Words.{usual_option, with_sheet_options};
 
-use crate::help::{REPLICA_HELP, WORKERS_HELP};
+use crate::help::{REPLICA_HELP, SQUASH_FIRST_HELP, WORKERS_HELP};
 use clap::builder::ValueParser;
 use clap::{Arg, ArgAction, Command};
 use ps_grid::{REPLICAS, WORKERS};
@@ -14,7 +14,7 @@ use std::alloc::{AllocError, Global};
 /// The greatest number of a port.
 pub(crate) const LAST_PORT: u32 = 65_535;
 
-/// An option with a number from `least` to `most`, which may be left out.
+/// Returns an option with a number from `least` to `most`, which may be left out.
 pub(crate) fn ranged_option<'a>(
     alloc: Global,
     id: &'a str,
@@ -32,7 +32,7 @@ pub(crate) fn ranged_option<'a>(
         .help(help)
 }
 
-/// .. and has this text then.
+/// Returns an option with a number from `least` to `most`, which is `usual` when left out.
 pub(crate) fn usual_option<'a>(
     alloc: Global,
     id: &'a str,
@@ -47,7 +47,7 @@ pub(crate) fn usual_option<'a>(
     ranged_option(alloc, id, least, most, help).default_value(usual)
 }
 
-/// An option with a number from 1 to `most`, which is 1 where it isn't given.
+/// Returns an option with a number from 1 to `most`, which is 1 when left out.
 pub(crate) fn number_option<'a>(alloc: Global, id: &'a str, most: u32, help: &'a str) -> Arg<'a>
     ensures rule { rule_of result ≡ number_option id.now most }
     ensures local { result.global ≡ false }
@@ -55,7 +55,7 @@ pub(crate) fn number_option<'a>(alloc: Global, id: &'a str, most: u32, help: &'a
     ranged_option(alloc, id, 1, most, help).default_value("1")
 }
 
-/// .. which has to be given.
+/// Returns an option with a number from 1 to `most`, which is required.
 pub(crate) fn needed_option<'a>(alloc: Global, id: &'a str, most: u32, help: &'a str) -> Arg<'a>
     ensures rule { rule_of result ≡ needed_option id.now most }
     ensures local { result.global ≡ false }
@@ -63,7 +63,7 @@ pub(crate) fn needed_option<'a>(alloc: Global, id: &'a str, most: u32, help: &'a
     ranged_option(alloc, id, 1, most, help).required(true)
 }
 
-/// An option with a text, which may be left out.
+/// Returns an option with a text, which may be left out.
 pub(crate) fn text_option<'a>(alloc: Global, id: &'a str, help: &'a str) -> Arg<'a>
     ensures rule { rule_of result ≡ text_option id.now }
     ensures local { result.global ≡ false }
@@ -74,7 +74,7 @@ pub(crate) fn text_option<'a>(alloc: Global, id: &'a str, help: &'a str) -> Arg<
         .help(help)
 }
 
-/// An option without a value.
+/// Returns an option without a value.
 pub(crate) fn flag_option<'a>(alloc: Global, id: &'a str, help: &'a str) -> Arg<'a>
     ensures rule { rule_of result ≡ flag_option id.now }
     ensures local { result.global ≡ false }
@@ -85,7 +85,7 @@ pub(crate) fn flag_option<'a>(alloc: Global, id: &'a str, help: &'a str) -> Arg<
         .help(help)
 }
 
-/// A command with what the help says of it, and no option yet.
+/// Returns a command with its help texts, and no option yet.
 pub(crate) fn new_command<'a>(
     alloc: Global,
     name: &'a str,
@@ -98,7 +98,7 @@ pub(crate) fn new_command<'a>(
     Command::new(alloc, name).about(about).after_help(after)
 }
 
-/// A command with one more option.
+/// Returns the command with one more option.
 pub(crate) fn with_option<'a>(
     command: Command<'a>,
     option: Arg<'a>,
@@ -111,7 +111,7 @@ pub(crate) fn with_option<'a>(
     command.arg(option)
 }
 
-/// The options of a command that opens a sheet, added to it.
+/// Returns the command with the options of one that opens a sheet.
 pub(crate) fn with_sheet_options<'a>(
     alloc: Global,
     command: Command<'a>,
@@ -123,5 +123,7 @@ pub(crate) fn with_sheet_options<'a>(
     let workers = number_option(alloc, "workers", WORKERS as u32, WORKERS_HELP);
     let command = with_option(command, workers)?;
     let replica = number_option(alloc, "replica", u32::from(REPLICAS), REPLICA_HELP);
-    with_option(command, replica)
+    let command = with_option(command, replica)?;
+    let squash = flag_option(alloc, "squash", SQUASH_FIRST_HELP);
+    with_option(command, squash)
 }

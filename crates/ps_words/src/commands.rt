@@ -20,8 +20,8 @@ use crate::arguments::{
 use crate::help::{
     ENTRIES_HELP, EVERY_HELP, EXPLAIN_HELP, FOLLOW_HELP, FOLLOWED_HELP, FROM_HELP, IDLE_HELP,
     KEEP_HELP, PORT_EXPLAIN_HELP, PORT_HELP, RUN_HELP, SEATS_HELP, SERVE_HELP, SESSIONS_HELP,
-    SHEET_HELP, SQUASH_HELP, STRICT_HELP, SYNC_HELP, TABLE_HELP, TALK_EXPLAIN_HELP, TALK_HELP,
-    TALKED_HELP, TITLE_HELP, TO_HELP, UNTIL_NOW_HELP, WAIT_HELP, WORKERS_HELP,
+    SHEET_HELP, SQUASH_HELP, SQUASHED_HELP, STRICT_HELP, SYNC_HELP, TABLE_HELP, TALK_EXPLAIN_HELP,
+    TALK_HELP, TALKED_HELP, TITLE_HELP, TO_HELP, UNTIL_NOW_HELP, WAIT_HELP, WORKERS_HELP,
 };
 use crate::options::{LONGEST_IDLE, LONGEST_PAUSE, LONGEST_WAIT, MOST_SESSIONS};
 use clap::Command;
@@ -70,7 +70,7 @@ fn serve_command<'a>(alloc: Global) -> Result<Command<'a>, AllocError>
     let command = with_option(new_command(alloc, "serve", about, SERVE_HELP), port)?;
     let sessions = ranged_option(alloc, "sessions", 1, MOST_SESSIONS, SESSIONS_HELP);
     let command = with_option(command, sessions)?;
-    let seats = usual_option(alloc, "seats", 1, SEATS as u32, "16", SEATS_HELP);
+    let seats = usual_option(alloc, "seats", 1, SEATS as u32, "64", SEATS_HELP);
     let command = with_option(command, seats)?;
     let wait = usual_option(alloc, "wait", 0, u32::from(LONGEST_WAIT), "5", WAIT_HELP);
     let command = with_option(command, wait)?;
@@ -134,12 +134,13 @@ fn talk_command<'a>(alloc: Global) -> Result<Command<'a>, AllocError>
 }
 
 /// The command `squash`.
-fn squash_command<'a>(alloc: Global) -> Command<'a>
-    ensures app { app_of result ≡ squash_app }
-    ensures local { (fields_of result).has_globals ≡ false }
+fn squash_command<'a>(alloc: Global) -> Result<Command<'a>, AllocError>
+    ensures app { IfOk result (λ command. app_of command ≡ squash_app) }
+    ensures local { IfOk result (λ command. (fields_of command).has_globals ≡ false) }
 {
     let about = "makes few push lines of many delta lines";
-    new_command(alloc, "squash", about, SQUASH_HELP)
+    let keep = text_option(alloc, "keep", SQUASHED_HELP);
+    with_option(new_command(alloc, "squash", about, SQUASH_HELP), keep)
 }
 
 /// The whole command line.
@@ -157,5 +158,5 @@ pub(crate) fn sheet_command<'a>(alloc: Global) -> Result<Command<'a>, AllocError
         .subcommand(sync_command(alloc)?)?
         .subcommand(follow_command(alloc)?)?
         .subcommand(talk_command(alloc)?)?
-        .subcommand(squash_command(alloc))
+        .subcommand(squash_command(alloc)?)
 }

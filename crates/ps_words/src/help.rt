@@ -15,7 +15,7 @@ pub const SESSIONS_HELP: &str =
     "how many sessions to serve before it ends, 1 to 1000000; without it, until it is stopped";
 
 /// What `--seats` means, with the range 1 to `SEATS`.
-pub const SEATS_HELP: &str = "how many sessions to serve at a time, 1 to 16";
+pub const SEATS_HELP: &str = "how many sessions to serve at a time, 1 to 256";
 
 /// What `--wait` means, with the range 0 to `LONGEST_WAIT`.
 pub const WAIT_HELP: &str = "how many seconds a connection may wait for a seat, 0 to 60";
@@ -27,6 +27,14 @@ pub const IDLE_HELP: &str =
 /// What `--keep` means.
 pub const KEEP_HELP: &str =
     "the file that the sheet is kept in: it is read at the start, and grows with each change";
+
+/// What `--squash` means.
+pub const SQUASH_FIRST_HELP: &str =
+    "squashes the file of --keep first, where that makes it at most half as long";
+
+/// What `--keep` of `squash` means.
+pub const SQUASHED_HELP: &str =
+    "the kept file that is squashed in its place, while no other program has it";
 
 /// What `--from` of `sync` means.
 pub const FROM_HELP: &str = "the port of the replica whose deltas are pulled, 1 to 65535";
@@ -41,7 +49,8 @@ pub const FOLLOWED_HELP: &str = "the port of the replica that is followed, 1 to 
 pub const UNTIL_NOW_HELP: &str = "ends once all that the replica has is written";
 
 /// What `--every` means, with the range 1 to `LONGEST_PAUSE`.
-pub const EVERY_HELP: &str = "how many milliseconds to wait before it asks for more, 1 to 60000";
+pub const EVERY_HELP: &str =
+    "has no effect any more, as each change comes at once; milliseconds, 1 to 60000";
 
 /// What `--to` of `talk` means.
 pub const TALKED_HELP: &str = "the port of the server that is asked, 1 to 65535";
@@ -141,7 +150,7 @@ Examples:
   printf 'set A1 5\\nset B1 =[.A1]*2\\nget B1\\n' | sheet run
   sheet run --replica 2 --workers 4 < my.lines
   sheet run --explain --strict < my.lines
-  sheet run --keep plan.lines < my.lines
+  sheet run --keep plan.lines --squash < my.lines
 
 With `--keep` the sheet begins with what the file has, and each change is on the disk
 before its `ok` is written. The file is text, a line `replica` and lines to push, so
@@ -196,7 +205,7 @@ each of them with a `set`, and have ended
 
   sheet serve --port 7001 --seats 4 --wait 30 --idle 1800
   sheet serve --port 7001 --workers 4 --explain
-  sheet serve --port 7001 --keep plan.lines --title 'Our plan'";
+  sheet serve --port 7001 --keep plan.lines --squash --title 'Our plan'";
 
 /// What stands below the options of `sheet sync --help`.
 pub const SYNC_HELP: &str = "\
@@ -232,8 +241,8 @@ Examples:
   sheet follow --from 7001 --every 1000 --explain
 
 The first keeps a replica as a file, the second hands each change of one replica
-to another as it comes, and the third asks for more but once a second. A line is
-such as
+to another as it comes, and the third is one for earlier versions. A line is such
+as
 
   push [[\"A1\",[1,1,\"5\"],[],[]]]";
 
@@ -269,11 +278,17 @@ it. What they say together is written as lines that push it: cell after cell, as
 many in a line as it has room for. A sheet that takes in the one or the other
 shows the same. Nothing is written where a line is none of a delta: standard error
 has `err 14 delta` and the line's number. A first line `replica 1`, as that of a kept
-file, stays. Squash a file while no sheet writes to it.
+file, stays.
+
+With `--keep` the lines are those of a kept file. It is replaced by what is written
+then, or stays as it is, whenever the program ends. A file that another program keeps
+is refused. Standard error tells how many changes became how many:
+`squashed plan.lines, 306 changes to 2`.
 
 Examples:
 
-  sheet squash < plan.lines > small && mv small plan.lines
+  sheet squash < plan.lines > small
+  sheet squash --keep plan.lines
 
 From
 

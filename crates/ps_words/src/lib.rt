@@ -23,6 +23,6 @@ pub use help::{
 };
 pub use options::{
     FollowOptions, LONGEST_IDLE, LONGEST_PAUSE, LONGEST_WAIT, MOST_SESSIONS, Options, RunOptions,
-    ServeOptions, SheetOptions, SyncOptions, TableOptions, TalkOptions,
+    ServeOptions, SheetOptions, SquashOptions, SyncOptions, TableOptions, TalkOptions,
 };
 pub use words::{PAGE_IS_GONE, asks_for_page, read_words};

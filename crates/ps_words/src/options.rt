@@ -14,7 +14,7 @@ pub const LONGEST_WAIT: u8 = 60;
 /// The longest after which a session ends whose peer sends nothing, in seconds: a day.
 pub const LONGEST_IDLE: u32 = 86_400;
 
-/// The greatest number of milliseconds that `follow` waits before it asks for more.
+/// The greatest number of milliseconds of `--every`, an option of `follow` in earlier versions.
 pub const LONGEST_PAUSE: u16 = 60_000;
 
 /// What a sheet is opened with.
@@ -24,6 +24,8 @@ pub struct SheetOptions {
     pub workers: u8,
     /// The replica's number, 1 to `REPLICAS`.
     pub replica: u8,
+    /// Whether the file that it is kept in is squashed first, where that makes it at most half as long.
+    pub squash: bool,
     ghost workers_in_range: { (1 ≤ workers) × (workers ≤ WORKERS) },
     ghost replica_in_range: { (1 ≤ replica) × (replica ≤ REPLICAS) },
 }
@@ -35,7 +37,7 @@ pub struct RunOptions<'a> {
     pub sheet: SheetOptions,
     /// The path of the file that the sheet is kept in, where it is to be kept.
     pub keep: Option<&'a str>,
-    /// Whether standard error is told of lines, with hints.
+    /// Whether standard error gets notes with hints about lines.
     pub explain: bool,
     /// Whether a refused line is a fault in the end.
     pub strict: bool,
@@ -48,7 +50,7 @@ pub struct TableOptions {
     pub workers: u8,
     /// Whether the entries of the cells are written, in place of what they show.
     pub entries: bool,
-    /// Whether standard error is told of fields, with hints.
+    /// Whether standard error gets notes with hints about fields.
     pub explain: bool,
     ghost workers_in_range: { (1 ≤ workers) × (workers ≤ WORKERS) },
 }
@@ -67,12 +69,12 @@ pub struct ServeOptions<'a> {
     /// How many sessions to serve, 1 to `MOST_SESSIONS`; none where it serves until it is stopped.
     pub sessions: Option<u32>,
     /// How many sessions to serve at a time, 1 to `SEATS`.
-    pub seats: u8,
+    pub seats: u16,
     /// How many seconds a connection waits for a seat, up to `LONGEST_WAIT`.
     pub wait: u8,
     /// After how many seconds a session ends whose peer sends nothing, 1 to `LONGEST_IDLE`; never where there is none.
     pub idle: Option<u32>,
-    /// Whether standard error is told why a port can't be had.
+    /// Whether standard error gets the reason if a port can't be used.
     pub explain: bool,
     ghost port_in_range: { 1 ≤ port },
     ghost sessions_in_range: { ForSome sessions (λ n. (1 ≤ n) × (n ≤ MOST_SESSIONS)) },
@@ -88,7 +90,7 @@ pub struct SyncOptions {
     pub from: u16,
     /// The port of the replica to which they are pushed, 1 or more.
     pub to: u16,
-    /// Whether standard error is told why a port can't be had.
+    /// Whether standard error gets the reason if a port can't be used.
     pub explain: bool,
     ghost from_in_range: { 1 ≤ from },
     ghost to_in_range: { 1 ≤ to },
@@ -101,9 +103,9 @@ pub struct FollowOptions {
     pub from: u16,
     /// Whether it ends once the replica has no more.
     pub until_now: bool,
-    /// For how many milliseconds it waits before it asks for more, 1 to `LONGEST_PAUSE`.
+    /// The milliseconds of `--every`, 1 to `LONGEST_PAUSE`. They have no effect any more.
     pub every: u16,
-    /// Whether standard error is told why a port can't be had.
+    /// Whether standard error gets the reason if a port can't be used.
     pub explain: bool,
     ghost from_in_range: { 1 ≤ from },
     ghost every_in_range: { (1 ≤ every) × (every ≤ LONGEST_PAUSE) },
@@ -114,9 +116,16 @@ pub struct FollowOptions {
 pub struct TalkOptions {
     /// The port of the server whose session it is, 1 or more.
     pub to: u16,
-    /// Whether standard error is told of lines, with hints, and why a port can't be had.
+    /// Whether standard error gets notes with hints about lines, and the reason if a port can't be used.
     pub explain: bool,
     ghost to_in_range: { 1 ≤ to },
+}
+
+/// What `sheet squash` is asked for.
+#[derive(Clone, Copy, PartialEq, Eq)]
+pub struct SquashOptions<'a> {
+    /// The path of the kept file that is squashed in its place; standard input is squashed where there is none.
+    pub keep: Option<&'a str>,
 }
 
 /// A command with what it is asked for.
@@ -128,12 +137,12 @@ pub enum Options<'a> {
     Table(TableOptions),
     /// Answers the lines of several sessions over TCP.
     Serve(ServeOptions<'a>),
-    /// Hands all that one replica has to another.
+    /// Pushes all changes of one replica to another.
     Sync(SyncOptions),
-    /// Writes what a replica has and gets as lines to push.
+    /// Writes all changes of a replica as change lines.
     Follow(FollowOptions),
     /// Asks a server each line of standard input.
     Talk(TalkOptions),
-    /// Makes few push lines of many delta lines.
-    Squash,
+    /// Makes few change lines of many delta lines.
+    Squash(SquashOptions<'a>),
 }

@@ -7,7 +7,7 @@ ghost use Rattle.ps_words.specs.Words.{asks_for_page, name_of, sheet_app};
 use crate::commands::sheet_command;
 use crate::options::{
     FollowOptions, LONGEST_IDLE, LONGEST_PAUSE, LONGEST_WAIT, MOST_SESSIONS, Options, RunOptions,
-    ServeOptions, SheetOptions, SyncOptions, TableOptions, TalkOptions,
+    ServeOptions, SheetOptions, SquashOptions, SyncOptions, TableOptions, TalkOptions,
 };
 use clap::{ArgMatches, Error};
 use ps_grid::{REPLICAS, SEATS, WORKERS};
@@ -49,8 +49,8 @@ fn number_to(matches: &ArgMatches<'_>, id: &str, most: u8) -> Option<u8>
     }
 }
 
-/// The number of milliseconds of an option, if it lies in 1..=most.
-fn pause_of(matches: &ArgMatches<'_>, id: &str, most: u16) -> Option<u16>
+/// The number of an option of up to 16 bits, if it lies in 1..=most.
+fn wide_number_of(matches: &ArgMatches<'_>, id: &str, most: u16) -> Option<u16>
     ensures number { IfSome result (GivesNumber (rows_of (found_of matches.now)) id.now) }
     ensures range { IfSome result (λ n. (1 ≤ n) × (n ≤ most)) }
 {
@@ -91,10 +91,16 @@ fn sheet_options(matches: &ArgMatches<'_>) -> Option<SheetOptions>
         sheet.workers) }
     ensures replica { IfSome result (λ sheet. GivesNumber (rows_of (found_of matches.now)) (codes "replica")
         sheet.replica) }
+    ensures squash { IfSome result (λ sheet. GivesFlag (rows_of (found_of matches.now)) (codes "squash")
+        sheet.squash) }
 {
     let workers = number_of(matches, "workers", WORKERS as u8)?;
     let replica = number_of(matches, "replica", REPLICAS)?;
-    Some(SheetOptions { workers, replica })
+    Some(SheetOptions {
+        workers,
+        replica,
+        squash: flag_of(matches, "squash"),
+    })
 }
 
 /// What the sheet of `run` is opened with, its file and its flags.
@@ -133,7 +139,7 @@ fn serve_options<'a>(matches: &ArgMatches<'a>) -> Option<Options<'a>>
     let keep = text_of(matches, "keep");
     let title = text_of(matches, "title");
     let sessions = count_of(matches, "sessions", MOST_SESSIONS)?;
-    let seats = number_of(matches, "seats", SEATS as u8)?;
+    let seats = wide_number_of(matches, "seats", SEATS as u16)?;
     let wait = number_to(matches, "wait", LONGEST_WAIT)?;
     let idle = count_of(matches, "idle", LONGEST_IDLE)?;
     let explain = flag_of(matches, "explain");
@@ -168,7 +174,7 @@ fn follow_options<'a>(matches: &ArgMatches<'a>) -> Option<Options<'a>>
 {
     let from = port_of(matches, "from")?;
     let until_now = flag_of(matches, "until-now");
-    let every = pause_of(matches, "every", LONGEST_PAUSE)?;
+    let every = wide_number_of(matches, "every", LONGEST_PAUSE)?;
     let explain = flag_of(matches, "explain");
     Some(Options::Follow(FollowOptions {
         from,
@@ -188,6 +194,16 @@ fn talk_options<'a>(matches: &ArgMatches<'a>) -> Option<Options<'a>>
     Some(Options::Talk(TalkOptions { to, explain }))
 }
 
+/// The file of `squash`.
+fn squash_options<'a>(matches: &ArgMatches<'a>) -> Options<'a>
+    ensures name { name_of result ≡ codes "squash" }
+    ensures numbers { GivesNumbers (rows_of (found_of matches.now)) result }
+{
+    Options::Squash(SquashOptions {
+        keep: text_of(matches, "keep"),
+    })
+}
+
 /// The options of a command by its name.
 fn options_of<'a>(name: &str, matches: &ArgMatches<'a>) -> Option<Options<'a>>
     ensures { IfSome result (λ options. (name_of options ≡ name.now)
@@ -200,14 +216,15 @@ fn options_of<'a>(name: &str, matches: &ArgMatches<'a>) -> Option<Options<'a>>
         "sync" => sync_options(matches),
         "follow" => follow_options(matches),
         "talk" => talk_options(matches),
-        "squash" => Some(Options::Squash),
+        "squash" => Some(squash_options(matches)),
         _ => None,
     }
 }
 
-/// Reads the program's words, the first of which is its own name: the command, the numbers and the texts are those of
-/// `clap`'s matches. Where the words are none, or ask for help or the version, the error has the text, and the exit
-/// status.
+/// Reads the program's words; the first is the program's own name.
+///
+/// The command, its numbers and its texts are those of `clap`'s matches. If the words are refused, or ask for help or
+/// the version, the error has the text and the exit status.
 ///
 /// Cost: O(n) in the n bytes of the words.
 pub fn read_words<'a>(alloc: Global, words: &'a [String]) -> Result<Options<'a>, Error>
@@ -223,7 +240,7 @@ pub fn read_words<'a>(alloc: Global, words: &'a [String]) -> Result<Options<'a>,
     Ok(options)
 }
 
-/// What is told whoever asks for the command `page`.
+/// The message for words that ask for the command `page`.
 pub const PAGE_IS_GONE: &str = "sheet page is gone: sheet serve has the page at its own port";
 
 /// Whether the program's words ask for the command `page`, which earlier versions had.

@@ -27,7 +27,7 @@ values_of formulas v cells = map (λ c. formula_value v (formulas c)) cells
 abbrev pub kept_values : List Kept → List Value
 kept_values out = map value_kept out
 
--- what `count` workers can do, the first of which has the number `first`: they have a cell each at least
+-- work for `count` workers, numbered from `first` on: they have a cell each at least
 abbrev pub IsWorkFor : (ℕ → Option Tree) → ℕ → ℕ → List ℕ → List Kept → Type 0
 IsWorkFor formulas first count cells out =
     (0 < count)

@@ -3,14 +3,14 @@
 ghost use Rattle.std.specs.Prelude.{◌<◌};
 ghost use Rattle.ps_grid.specs.declared.parties.TheConstants.{WORKERS};
 
-/// Whoever lets workers pass. A worker passes before each of its evaluations.
+/// A gate that a worker passes before each of its evaluations.
 pub trait Gate: Sync {
-    /// Lets a worker pass. The first one has the number 0.
+    /// Lets a worker pass. The first worker is 0.
     fn pass(&self, worker: usize)
         requires { worker < WORKERS };
 }
 
-/// Lets all workers pass at once.
+/// The gate that lets all workers pass at once.
 #[derive(Clone, Copy, Drop)]
 pub struct Open;
 

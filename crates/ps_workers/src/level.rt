@@ -18,7 +18,7 @@ use std::marker::Brand;
 use std::sync::ledger::{Blank, Ledger};
 use std::thread::{Threads, join_mut};
 
-/// What is kept of a formula's value: its number, or the fault in its place.
+/// The stored form of a formula's value: its number, or the fault in its place.
 fn kept_of(number: Result<i64, Fault>) -> Kept
     ensures { value_kept result ≡ shown_as number }
 {
@@ -28,8 +28,8 @@ fn kept_of(number: Result<i64, Fault>) -> Kept
     }
 }
 
-/// How many of the cells the first `low` of `count` workers get: the first workers have one cell more than the others
-/// where the cells don't divide evenly.
+/// How many of the cells the first `low` of `count` workers get. If the cells don't divide evenly, the first workers
+/// have one cell more than the others.
 fn share(cells: usize, count: usize, low: usize) -> usize
     requires count { 0 < count }
     requires low { low ≤ count }
@@ -60,7 +60,7 @@ impl<R: Threads + Sync, F: Formulas + Sync, K: Look + Sync, G: Gate> Task<'_, R,
         self.by_one_counted::<Brand>(Blank::new(1), worker, cells, out)
     }
 
-    /// The same, with a meter over a blank.
+    /// Evaluates the cells of one worker, and counts them by a meter over `blank`.
     #[inline(always)]
     fn by_one_counted<L: Ledger>(
         &self,
@@ -87,8 +87,8 @@ impl<R: Threads + Sync, F: Formulas + Sync, K: Look + Sync, G: Gate> Task<'_, R,
         meter.finish(cells.len() as u64)
     }
 
-    /// Evaluates the cells of `count` workers, the first of which has the number `first`: those of one half of the
-    /// workers in this thread, and those of the other half in a thread of its own.
+    /// Evaluates the cells of `count` workers, numbered from `first` on. One half of the workers runs in this thread,
+    /// and the other half in a thread of its own.
     #[cycle(halves)]
     fn by_several(&self, first: usize, count: usize, cells: &[Cell], out: &mut [Kept]) -> Counted
         requires { IsWorkFor (F.formula_at self.now.formulas.now) first count cells.now out.old }
@@ -120,9 +120,10 @@ impl<R: Threads + Sync, F: Formulas + Sync, K: Look + Sync, G: Gate> Task<'_, R,
     }
 }
 
-/// Evaluates the formula of a cell. It is the same as a level of that one cell by one worker: what is kept has the
-/// value of the cell's formula where each cell shows what `look` says, the meter has one tick more, and the gate is
-/// passed once, as worker 0. It needs no place for the value, starts no thread, and takes no memory.
+/// Evaluates the formula of a cell, and returns its value where each cell shows what `look` says.
+///
+/// It does the same as a level of that one cell by one worker: the meter gets one tick more, and the gate is passed
+/// once, as worker 0. It needs no place for the value, starts no thread, and takes no memory.
 ///
 /// Cost: the evaluation.
 #[inline(always)]
@@ -140,7 +141,7 @@ pub fn eval_cell<F: Formulas, K: Look, G: Gate, L: Ledger>(
     eval_as(0, cell, formulas, look, gate, meter)
 }
 
-/// Evaluates the formula of a cell, once it has passed the gate as this worker.
+/// Evaluates the formula of a cell, once this worker has passed the gate.
 #[inline(always)]
 fn eval_as<F: Formulas, K: Look, G: Gate, L: Ledger>(
     worker: usize,
@@ -162,13 +163,14 @@ fn eval_as<F: Formulas, K: Look, G: Gate, L: Ledger>(
     }
 }
 
-/// Evaluates the formula of each cell, by at most `workers` workers, each of which has cells of its own, one after the
-/// other. Place i of `out` is then the value of cell i's formula where each cell shows what `look` says, and the meter
-/// has one tick more for each cell, whatever the number of workers. A worker for which no thread can be started is run
-/// by the caller, and one worker starts none. It takes no memory but for the threads.
+/// Evaluates the formula of each cell, by at most `workers` workers.
 ///
-/// It is part of the public interface, so it has eight parameters: what is looked at, the places, the workers and the
-/// count are each somebody else's.
+/// Place i of `out` then has the value of cell i's formula where each cell shows what `look` says. The meter gets one
+/// tick more for each cell, whatever the number of workers. Each worker has cells of its own, one after the other. The
+/// caller runs a worker whose thread can't be started, and one worker starts no thread. It takes no memory except for
+/// the threads.
+///
+/// It has eight parameters, since what is looked at, the places, the workers and the count have different owners.
 ///
 /// Cost: the evaluations, divided evenly, and the start of a thread for each worker but one.
 pub fn eval_level<R: Threads + Sync, F: Formulas + Sync, K: Look + Sync, G: Gate, L: Ledger>(

@@ -1,16 +1,16 @@
 //! The cells of one level, evaluated by several workers at once.
 //!
-//! It is not the sheet: it finds no levels, keeps no values, and knows no edits. The workers share the formulas and
-//! what the cells show; each has places of its own for the new values.
+//! It is not the sheet: it finds no levels, stores no values, and knows no edits. The workers share the formulas and
+//! what the cells show. Each has places of its own for the new values.
 //!
-//! The contract to use is that of `eval_level`: whatever the number of workers and whatever the gate does, each place
-//! has the value of its cell's formula, and the meter has counted one evaluation a cell. `eval_cell` does the same for
-//! a level of one cell, without places and threads.
+//! Use the contract of `eval_level`. Each place gets the value of its cell's formula, and the meter counts one
+//! evaluation a cell, whatever the number of workers and whatever the gate does. `eval_cell` does the same for a level
+//! of one cell, without places and threads.
 //!
-//! The five formulas `=1+1` to `=1+5` as one level give 2, 3, 4, 5, 6 with one worker and with sixteen; with two
+//! The five formulas `=1+1` to `=1+5` as one level give 2, 3, 4, 5, 6 with one worker and with sixteen. With two
 //! workers the first has three of the cells, and the second two.
 //!
-//! A small level isn't worth a thread: `workers_worth` says how many workers a level is worth.
+//! A small level isn't worth a thread: `workers_worth` returns how many workers a level is worth.
 //!
 //! Cost: the evaluations, divided among the workers, and the start of a thread for each worker but one.
 #![tactic(auto)]

@@ -33,7 +33,7 @@ has_taken replicas r k = option_map_or (λ x. contains nat_cmp x.taken k) (repli
 abbrev pub world_of : WorldView → WorldState
 world_of w = record { deltas = w.deltas; took = has_taken w.replicas }
 
--- a sheet of replica r, whose history joins to the deltas that r took, all of which exist
+-- a sheet of replica r: its history joins to the deltas that r took, and all of these exist
 pub record IsReplica (w : WorldState) (r : ℕ) (x : ReplicaView) : Type 0 where
   pub sheet : IsSheet x.sheet
   pub own : x.sheet.replica ≡ r

@@ -57,8 +57,8 @@ impl Replica {
         })
     }
 
-    /// Makes an edit here and takes its delta with this number. Returns the delta; none where the edit is refused, and
-    /// then nothing is changed. Refused only when out of memory.
+    /// Makes an edit here and takes its delta with this number. Returns the delta; none if the edit is refused, and
+    /// then nothing is changed. Fails only when out of memory.
     pub(crate) fn make<R: Threads + Sync, L: Ledger>(
         &mut self,
         rt: &R,
@@ -89,7 +89,7 @@ impl Replica {
         Ok(Some(newest(alloc, &self.sheet)?))
     }
 
-    /// Receives a delta and takes it with its number. Refused only when out of memory.
+    /// Receives a delta and takes it with its number. Fails only when out of memory.
     pub(crate) fn take<R: Threads + Sync, L: Ledger>(
         &mut self,
         rt: &R,

@@ -50,7 +50,7 @@ impl World {
     ghost use Rattle.ps_world.specs.World.{empty_world};
     ghost use Rattle.ps_world.specs.Inside.Steps.{IsAfter};
 
-    /// Empty sheets of as many replicas, and no deltas.
+    /// Empty sheets of `replicas` replicas, and no deltas.
     fn open(alloc: Global, replicas: u8) -> Result<World, Refusal>
         ensures replicas { IfOk result (λ w. length w.replicas ≡ replicas) }
         ensures empty { IfOk result (λ w. world_of w ≡ empty_world) }
@@ -68,7 +68,7 @@ impl World {
         })
     }
 
-    /// The world after an event. Refused only out of memory.
+    /// The world after an event. Fails only when out of memory.
     fn after<R: Threads + Sync, L: Ledger>(
         self,
         rt: &R,
@@ -157,10 +157,9 @@ impl World {
         Ok(World { deltas, replicas })
     }
 
-    /// The sheet of a replica, counted from 1; none where there is no such replica. Nothing in the program calls it: it
-    /// is part of the public interface, as [`play`] is.
+    /// Returns the sheet of a replica, counted from 1; none if there is no such replica.
     ///
-    /// Cost: constant.
+    /// Nothing in the program calls it: it is part of the public interface, as [`play`] is.
     pub fn sheet(&self, replica: u8) -> Option<&Sheet>
         ensures sheet { option_copied result ≡ option_map (λ x. x.sheet) (replica_at self.now.replicas replica) }
         ensures world { IsWorld self.now }
@@ -168,10 +167,9 @@ impl World {
         Some(self.replica(replica)?.sheet())
     }
 
-    /// The numbers of the deltas that a replica took, counted from 1; none where there is no such replica. Nothing in
-    /// the program calls it: it is part of the public interface, as [`play`] is.
+    /// Returns the numbers of the deltas that a replica took, both counted from 1; none if there is no such replica.
     ///
-    /// Cost: constant.
+    /// Nothing in the program calls it: it is part of the public interface, as [`play`] is.
     pub fn taken(&self, replica: u8) -> Option<&BTreeSet<usize>>
         ensures taken { option_copied result ≡ option_map (λ x. x.taken) (replica_at self.now.replicas replica) }
         ensures world { IsWorld self.now }
@@ -188,7 +186,7 @@ impl World {
     }
 }
 
-/// The place of a number in a list whose items are numbered from 1 on; none where it is unknown.
+/// The place of a number in a list whose items are numbered from 1 on; none if the number is unknown.
 fn place_of(number: usize, count: usize) -> Option<usize>
     ensures { SomeIff result ((1 ≤ number) × (number ≤ count)) (number - 1) }
 {
@@ -208,19 +206,18 @@ fn numbered(replicas: &[Replica], replica: u8) -> Option<&Replica>
     replicas.get(usize::from(replica) - 1)
 }
 
-/// Plays the events, one after another, on as many empty sheets, 1 to 32, which are replicas 1, 2 and so on.
+/// Plays the events, one after another, on `replicas` empty sheets, 1 to 32, which are replicas 1, 2 and so on.
 ///
 /// This is the headline for whole runs, whatever the events are. The world has exactly the deltas, and each replica
 /// took exactly the numbers, of `played`, a definition that knows no sheet. Each sheet shows the settled values of the
 /// join of the deltas that its replica took (`settled`), and replicas that took the same deltas show the same (`same`).
 ///
-/// Nothing in the program calls it. It is part of the public interface: the model in which the headline is told, and
-/// tests run it.
+/// Nothing in the program calls it; tests do. It is part of the public interface as the model that states the headline.
 ///
-/// An event that names an unknown replica or an unknown delta changes nothing, and neither does an edit that is refused
-/// for another cause than memory.
+/// An event that names an unknown replica or an unknown delta changes nothing. Neither does an edit that is refused for
+/// another cause than memory.
 ///
-/// Refused where the number of replicas is out of range, and where memory runs out.
+/// Fails if the number of replicas is out of range, or when out of memory.
 ///
 /// Cost: opening n sheets, then that of each edit and of each delivery.
 pub fn play<R: Threads + Sync, L: Ledger>(

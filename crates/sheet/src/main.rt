@@ -1,18 +1,26 @@
 //! A replicated spreadsheet on the command line.
 //!
-//! `sheet run` opens an empty sheet and answers each line of standard input on standard output; `sheet table` reads a
-//! table of CSV and writes the table of its settled values. `sheet serve` answers the lines of several connections,
-//! side by side and on one sheet, and shows it to browsers, and `sheet sync` hands what one replica has to another,
-//! both of which listen on this machine. `sheet follow` writes what such a replica has and gets, as lines to push,
-//! `sheet talk` is a session at it, and `sheet squash` makes few delta lines of many. It keeps nothing from one start
-//! to the next but in the file that `--keep` of `run` or `serve` names.
+//! The commands:
 //!
-//! It ties the commands of `ps_commands`, whose contracts say what each does, to the words, to standard input, output
-//! and error, and to the exit status: 0 where all went well, 1 where a device failed, 2 for a command line that is
-//! none, 3 for any other refusal. A line that `sheet run` refuses is none of these, unless it was told to be strict.
+//! - `sheet run` opens an empty sheet and answers each line of standard input on standard output.
+//! - `sheet table` reads a table of CSV and writes the table of its shown values.
+//! - `sheet serve` answers the lines of several connections, side by side and on one sheet, and shows it to browsers.
+//! - `sheet sync` pushes all changes of one replica to another; both listen on this machine.
+//! - `sheet follow` writes the changes of such a replica as change lines.
+//! - `sheet talk` is a session at such a replica.
+//! - `sheet squash` makes few change lines of many delta lines.
 //!
-//! With `set A1 5` and `get A1` on standard input, `sheet run` writes `ok 1` and `val 5`; with `2,=[.A1]*3`,
-//! `sheet table` writes `2,6`.
+//! Nothing is stored from one start to the next, except in the file that `--keep` names.
+//!
+//! This crate connects the commands of `ps_commands` with the words, with standard input, output and error, and with
+//! the exit status. The contracts there say what each command does.
+//!
+//! The exit status is 0 if all went well, and 2 if the command line is refused. It is 1 if a device failed, a port
+//! can't be used or another program has the file. For any other refusal it is 3. A line that `sheet run` refuses
+//! changes it only with `--strict`.
+//!
+//! With `set A1 5` and `get A1` on standard input, `sheet run` writes `ok 1` and `val 5`. With
+//! `2,=[.A1]*3`, `sheet table` writes `2,6`.
 //!
 //! Cost: that of the sessions, or of an import and an export.
 #![tactic(auto)]
@@ -24,8 +32,8 @@ use clap::Error;
 use clap::error::ErrorKind;
 use ps_commands::{
     KeptOnlooker, Onlooker, ProgramFault, answer_kept, answer_lines, follow_on, leave_unfreed,
-    open_kept_sheet, port_fault, serve, serve_kept, squash_on, status_of, sync_on, table_on,
-    talk_on, tell_opened,
+    open_kept_sheet, port_fault, serve, serve_kept, squash_kept, squash_on, status_of, sync_on,
+    table_on, talk_on, tell_opened,
 };
 use ps_device::{ConsoleOutput, Reading, Sink, Writing};
 use ps_eval::Meter;
@@ -62,8 +70,9 @@ fn main(rt: HostRuntime) -> ExitCode {
     }
 }
 
-/// An end of a pipe that has the first of the descriptors 0 to 2 which is closed, if one is. So no file and no
-/// connection is taken for standard input, output or error: reading it is at its end at once, and writing to it fails.
+/// Returns an end of a pipe that takes the first closed descriptor of 0 to 2, if one of them is closed. So no file and
+/// no connection becomes standard input, output or error. Reading such an end is at its end at once, and writing to it
+/// fails.
 fn held_end(rt: &HostRuntime) -> Option<PipeReader> {
     let Ok((reader, writer)) = pipe(rt) else {
         return None;
@@ -149,18 +158,18 @@ fn run_command<
     }
 }
 
-/// Whether it is asked for that a port that can't be had is told in words.
+/// Returns whether the options ask for the reason if a port can't be used.
 fn wants_words(options: Options<'_>) -> bool {
     match options {
         Options::Serve(options) => options.explain,
         Options::Sync(options) => options.explain,
         Options::Follow(options) => options.explain,
         Options::Talk(options) => options.explain,
-        Options::Run(_) | Options::Table(_) | Options::Squash => false,
+        Options::Run(_) | Options::Table(_) | Options::Squash(_) => false,
     }
 }
 
-/// Reports what ended the program early, and of a port, where it is to be told in words, why it can't be had.
+/// Reports what ended the program early. It adds why a port can't be used, if the options or a terminal ask for it.
 fn report(rt: &HostRuntime, fault: &ProgramFault, asked: bool) -> ExitCode {
     let _ = eprintln!(rt; "{fault}");
     if let Some(port) = port_fault(fault) {
@@ -171,10 +180,10 @@ fn report(rt: &HostRuntime, fault: &ProgramFault, asked: bool) -> ExitCode {
     ExitCode::from(status_of(fault))
 }
 
-/// Runs a command on standard input and output, whose failures and whose work these blanks count.
+/// Runs a command on standard input and output. The blanks of `counts` count its failures and its work.
 ///
-/// The replies of `run` wait in memory and are written before the next read, so a batch of lines costs one write a
-/// piece of the input, and a peer that waits for a reply has it. A table waits nowhere.
+/// The replies of `run` wait in memory and are written before the next read. So a batch of lines costs one write for
+/// each piece of the input, and a peer that waits for a reply gets it. A table waits nowhere.
 fn on_standard<
     R: Files<File = File>
         + Net<Listener = TcpListener, Stream = TcpStream>
@@ -209,18 +218,29 @@ fn on_standard<
         }
         Options::Follow(options) => {
             let mut sink = console::<O>(rt, counts.output)?;
-            follow_on(threads, rt, rt.alloc(), options, &mut sink)
+            follow_on(threads, rt.alloc(), options, &mut sink)
         }
         Options::Talk(options) => talk_lines::<R, I, O>(rt, threads, counts, options),
-        Options::Squash => {
-            let mut source = Reading::<_, I>::new(rt.reader(), counts.input);
-            let mut sink = Writing::<_, O>::new(rt.stdout(), counts.output);
-            squash_on(rt.alloc(), &mut source, &mut sink)
-        }
+        Options::Squash(options) => match options.keep {
+            Some(path) => {
+                let mut meter = Meter::<M>::new(counts.evaluations);
+                squash_kept(
+                    resources_of(rt, threads),
+                    path,
+                    &mut meter,
+                    &mut rt.stderr(),
+                )
+            }
+            None => {
+                let mut source = Reading::<_, I>::new(rt.reader(), counts.input);
+                let mut sink = Writing::<_, O>::new(rt.stdout(), counts.output);
+                squash_on(rt.alloc(), &mut source, &mut sink)
+            }
+        },
     }
 }
 
-/// Standard output, whose bytes wait in memory until they are handed on. This blank counts its failures. Refused out of
+/// Returns standard output, whose bytes wait in memory until a flush. `output` counts its failures. Fails out of
 /// memory.
 fn console<O: Ledger>(rt: &HostRuntime, output: Blank) -> Result<ConsoleOutput<Stdout, O>, Refusal>
     requires { IsBlankOf output O.name O.parts }
@@ -228,7 +248,7 @@ fn console<O: Ledger>(rt: &HostRuntime, output: Blank) -> Result<ConsoleOutput<S
     ConsoleOutput::new(rt.alloc(), rt.stdout(), output)
 }
 
-/// What the commands work by: these threads, and the memory of the program.
+/// Returns what the commands work with: these threads, and the memory of the program.
 fn resources_of<'a, R>(rt: &HostRuntime, threads: &'a R) -> Resources<'a, R> {
     Resources {
         threads,
@@ -236,7 +256,7 @@ fn resources_of<'a, R>(rt: &HostRuntime, threads: &'a R) -> Resources<'a, R> {
     }
 }
 
-/// Whether hints are told: where they are asked for, and where a person types and reads what is told.
+/// Returns whether hints are written: if `asked`, or if standard input and standard error are terminals.
 fn is_explained(rt: &HostRuntime, asked: bool) -> bool {
     asked || (rt.stdin().is_terminal() && rt.stderr().is_terminal())
 }
@@ -268,8 +288,8 @@ fn run_lines<R: Threads + Sync, I: Ledger, O: Ledger, M: Ledger>(
     onlooker.end(options.strict)
 }
 
-/// Answers the lines of standard input on standard output by the sheet that a file keeps, with what was opened, hints
-/// and a warning on standard error. The path is what `options.keep` has, so that there is one.
+/// Answers the lines of standard input on standard output by the sheet of a file. Standard error gets the opened file,
+/// hints and a warning. `path` is what `options.keep` has, so that there is one.
 fn run_kept<R: Files<File = File> + Threads + Sync, I: Ledger, O: Ledger, H: Ledger, M: Ledger>(
     rt: &HostRuntime,
     threads: &R,

@@ -1,4 +1,4 @@
-//! Desks over sheets, and what is asked of their passes.
+//! Desks over sheets, and calls by their passes.
 
 ghost use Rattle.ps_grid.specs.Blanks.{IsBlankOf};
 ghost use Rattle.ps_desk.specs.Opening.{IsNamed};
@@ -26,7 +26,7 @@ pub(crate) fn entered(rt: &impl Abort, alloc: Global, name: &str, entry: &str) -
     Edit::Set(cell(rt, name), content.expect(rt, "an entry"))
 }
 
-/// A desk over a sheet, with a pass for each seat. It isn't refused.
+/// A desk over a sheet, with a pass for each seat. Opening it succeeds.
 pub(crate) fn open<'a, L: DeskName, T: Abort + Wait + Sync>(
     rt: &'a T,
     alloc: Global,
@@ -38,7 +38,7 @@ pub(crate) fn open<'a, L: DeskName, T: Abort + Wait + Sync>(
     opened.expect(rt, "a desk")
 }
 
-/// The sheet of a desk whose passes are given back.
+/// The sheet of a desk, after its passes are given back.
 pub(crate) fn close<L: DeskName, W: Wait + Drop, T: Abort + Wait>(
     rt: &T,
     desk: Desk<L, W>,
@@ -68,7 +68,7 @@ fn made<L: DeskName, W: Wait + Drop, T: Threads + Wait + Sync, M: Ledger>(
     }
 }
 
-/// The receipt of a change that isn't refused.
+/// The receipt of a change that succeeds.
 pub(crate) fn make<L: DeskName, W: Wait + Drop, T: Abort + Threads + Wait + Sync>(
     rt: &T,
     alloc: Global,

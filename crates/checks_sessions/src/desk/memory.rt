@@ -1,7 +1,7 @@
-//! Calls at a desk of which one growth is refused, and which are then made again.
+//! Calls at a desk that are made again after one allocation is refused.
 //!
-//! A test stands whichever single growth is refused in its process (`tests/test_refused.py`): where that is one of what
-//! comes before the call, all is done once more.
+//! A test passes whichever single allocation is refused in its process (`tests/test_refused.py`). If the refused one
+//! comes before the call under test, everything is done once more.
 
 ghost use Rattle.ps_desk.specs.Opening.{IsNamed};
 
@@ -20,18 +20,18 @@ use std::process::Abort;
 use std::sync::Wait;
 use std::thread::Threads;
 
-/// What is asked of a desk.
+/// A call at a desk.
 #[derive(Clone, Copy)]
 enum Asked {
-    /// To enter an entry into a cell; the answer is the number of the receipt.
+    /// Enter an entry into a cell; the answer is the number of the receipt.
     Enter(&'static str, &'static str),
-    /// To receive the delta of a line; the answer is the number of the receipt.
+    /// Receive the delta of a line; the answer is the number of the receipt.
     Receive(&'static str),
-    /// To pull the deltas after a number; the answer is how many there are.
+    /// Pull the deltas after a number; the answer is how many there are.
     Pull(u64),
 }
 
-/// What is asked, the answer, and what a cell shows then.
+/// A call, its answer, and what a cell shows then.
 type Row = (Asked, u64, &'static str, Value);
 
 /// What a pass shows of each cell, the version that it is of, and how many deltas the pass appended.
@@ -42,7 +42,7 @@ struct Noted {
     values: Vec<Value>,
 }
 
-/// The cell at a place in the order of the grid.
+/// The cell at a position in the order of the grid.
 fn at(rt: &impl Abort, place: usize) -> Cell {
     Cell::from_index(place).expect(rt, "a cell")
 }
@@ -87,7 +87,7 @@ fn received(alloc: Global, line: &str) -> Result<Change, Refusal> {
     Ok(Change::Delta(decode(alloc, line.as_bytes())?))
 }
 
-/// Asks one thing of a desk.
+/// Makes a call at a desk.
 fn ask<L: DeskName, W: Wait + Drop, T: Abort + Threads + Wait + Sync>(
     rt: &T,
     alloc: Global,
@@ -105,8 +105,7 @@ fn ask<L: DeskName, W: Wait + Drop, T: Abort + Threads + Wait + Sync>(
     }
 }
 
-/// Asks one thing of a desk, by a second call where the first one is refused memory: both passes then show what they
-/// showed.
+/// Makes a call at a desk, and calls again if the first call is out of memory: both passes then show what they showed.
 fn ask_again<L: DeskName, W: Wait + Drop, T: Abort + Threads + Wait + Sync>(
     rt: &T,
     alloc: Global,
@@ -127,7 +126,7 @@ fn ask_again<L: DeskName, W: Wait + Drop, T: Abort + Threads + Wait + Sync>(
     }
 }
 
-/// Goes through the rows at two seats of a desk: the first one asks, and both show then what is due.
+/// Goes through the rows at two seats of a desk. The first one calls, and then both show what is expected.
 fn go_through<L: DeskName, W: Wait + Drop, T: Abort + Threads + Wait + Sync>(
     rt: &T,
     alloc: Global,
@@ -146,8 +145,8 @@ fn go_through<L: DeskName, W: Wait + Drop, T: Abort + Threads + Wait + Sync>(
     Ok(())
 }
 
-/// A desk is opened over the parts of a sheet that shows nothing, and the rows are gone through. Where it can't be
-/// opened, the sheet is back.
+/// Opens a desk over the parts of a sheet that shows nothing, and goes through the rows. If the desk can't be opened,
+/// it returns the sheet.
 fn life<L: DeskName, T: Abort + Threads + Wait + Sync>(
     rt: &T,
     alloc: Global,
@@ -162,7 +161,7 @@ fn life<L: DeskName, T: Abort + Threads + Wait + Sync>(
     Ok(go_through(rt, alloc, &desk, &mut first, &mut second, rows))
 }
 
-/// The same, over a desk of two seats.
+/// The same, with a desk of two seats.
 fn over<T: Abort + Threads + Wait + Sync>(
     rt: &T,
     alloc: Global,
@@ -172,7 +171,7 @@ fn over<T: Abort + Threads + Wait + Sync>(
     life::<Brand, T>(rt, alloc, Parts::new(sheet, 2), rows)
 }
 
-/// The same, by a second opening where the first one is refused: that is `Memory`, and the sheet is back, which has no
+/// The same, with a second opening if the first one is refused. That refusal is `Memory`, and the returned sheet has no
 /// delta and shows nothing.
 fn over_again<T: Abort + Threads + Wait + Sync>(
     rt: &T,
@@ -194,7 +193,7 @@ fn over_again<T: Abort + Threads + Wait + Sync>(
     }
 }
 
-/// The same, at a second sheet where memory ran out for what comes before a call.
+/// The same, with a second sheet if the first run is out of memory before a call.
 fn check<T: Abort + Threads + Wait + Sync>(rt: &T, alloc: Global, rows: &[Row]) {
     let mut ended = over_again(rt, alloc, rows);
     if ended == Err(Refusal::Memory) {
@@ -203,13 +202,13 @@ fn check<T: Abort + Threads + Wait + Sync>(rt: &T, alloc: Global, rows: &[Row]) 
     assert!(rt; ended == Ok(()));
 }
 
-/// A refused `open` is `Memory`, and gives the sheet back; the next one opens the desk. The parts take no memory.
+/// A refused `open` is `Memory`, and returns the sheet; the next one opens the desk. The parts take no memory.
 #[test]
 fn refused_open(rt: HostRuntime) {
     check(&rt, rt.alloc(), &[]);
 }
 
-/// After a refused edit each pass shows and has appended what it did, and the next call makes it.
+/// After a refused edit each pass shows and counts the same as before, and the next call makes the edit.
 #[test]
 fn refused_edit(rt: HostRuntime) {
     check(
@@ -223,7 +222,7 @@ fn refused_edit(rt: HostRuntime) {
     );
 }
 
-/// After a refused receipt each pass shows and has appended what it did, and the next call takes the delta.
+/// After a refused receipt each pass shows and counts the same as before, and the next call takes the delta.
 #[test]
 fn refused_receive(rt: HostRuntime) {
     let both = r#"[["A1",[1,2,"5"],[],[]],["B1",[1,2,"=[.A1]*2"],[],[]]]"#;
@@ -239,7 +238,7 @@ fn refused_receive(rt: HostRuntime) {
     );
 }
 
-/// A refused pull is `Memory`, each pass shows what it did, and the next call hands out the deltas.
+/// A refused pull is `Memory`, each pass shows the same as before, and the next call returns the deltas.
 #[test]
 fn refused_pull(rt: HostRuntime) {
     check(

@@ -1,12 +1,12 @@
-//! When others are shown what a session changes at its seat.
+//! When others see what a session changes at its seat.
 
 ghost use Rattle.ps_grid.specs.Blanks.{IsBlankOf};
 ghost use Rattle.ps_desk.specs.Opening.{IsNamed};
 
 use crate::desk::desks::{cell, close, entered, open, sheet_of};
-use Act::{Enter, Look, Pull, Refuse, Show};
+use Act::{Await, Enter, Look, Pull, Refuse, Show};
 use ps_delta::Edit;
-use ps_desk::{Desk, DeskName, Parts, Pass, Seat};
+use ps_desk::{Desk, DeskName, Parts, Pass, Presence, Seat};
 use ps_eval::Meter;
 use ps_grid::Refusal;
 use ps_session::Board;
@@ -17,23 +17,26 @@ use std::process::Abort;
 use std::sync::Wait;
 use std::sync::ledger::{Blank, Ledger};
 use std::thread::Threads;
+use std::time::Clock;
 
 /// What a session does at its seat.
 #[derive(Clone, Copy)]
 enum Act {
-    /// It enters this number into A1, and is told this number.
+    /// It enters this number into A1, and gets this number of the change.
     Enter(&'static str, u64),
     /// It adds to A1, which has no counter, and is refused.
     Refuse,
     /// It looks at A1, which shows this number.
     Look(i64),
-    /// It pulls all deltas, which are so many.
+    /// It pulls all deltas; this is their number.
     Pull(usize),
+    /// It waits for more changes than the first number, and gets the second.
+    Await(u64, u64),
     /// It is about to send its replies.
     Show,
 }
 
-/// Does what a session does, and tells whether it is answered what it is to be.
+/// Does what a session does, and returns whether the answer is the expected one.
 fn is_answered<B: Board<Meter<M>>, M: Ledger, T: Abort + Threads + Sync>(
     rt: &T,
     alloc: Global,
@@ -55,12 +58,13 @@ fn is_answered<B: Board<Meter<M>>, M: Ledger, T: Abort + Threads + Sync>(
             Ok(deltas) => deltas.len() == count,
             Err(_) => false,
         },
+        Await(seen, told) => board.wait(seen, true) == told,
         Show => true,
     }
 }
 
-/// Has a session at a seat do this, and tells whether it is answered what it is to be.
-fn takes_turn<L: DeskName, W: Wait + Drop, M: Ledger, T: Abort + Threads + Wait + Sync>(
+/// Has a session at a seat do this, and returns whether the answer is the expected one.
+fn takes_turn<L: DeskName, W: Wait + Drop, M: Ledger, T: Abort + Threads + Wait + Clock + Sync>(
     rt: &T,
     alloc: Global,
     seat: &mut Seat<'_, L, W, T>,
@@ -73,8 +77,8 @@ fn takes_turn<L: DeskName, W: Wait + Drop, M: Ledger, T: Abort + Threads + Wait 
     is_answered(rt, alloc, seat, meter, act)
 }
 
-/// Does what two sessions do at their seats by turns, the first one leaves, and then what the second one does.
-fn take_turns<'d, L: DeskName, W: Wait + Drop, T: Abort + Threads + Wait + Sync, M: Ledger>(
+/// Two sessions act at their seats by turns. The first one leaves, and then the second one acts once more.
+fn take_turns<'d, L: DeskName, W: Wait + Drop, T: Abort + Threads + Wait + Clock + Sync, M: Ledger>(
     rt: &'d T,
     blank: Blank,
     alloc: Global,
@@ -87,9 +91,9 @@ fn take_turns<'d, L: DeskName, W: Wait + Drop, T: Abort + Threads + Wait + Sync,
 {
     let mut meter = Meter::<M>::new(blank);
     let pass = passes.pop().expect(rt, "a second pass");
-    let mut second = Seat::new(desk, rt, pass);
+    let mut second = Seat::new(desk, rt, pass, Presence::none());
     let pass = passes.pop().expect(rt, "a pass");
-    let mut first = Seat::new(desk, rt, pass);
+    let mut first = Seat::new(desk, rt, pass, Presence::none());
     first.leave_to_keeper();
     second.leave_to_keeper();
     for (at, (seat, act)) in acts.iter().enumerate() {
@@ -107,7 +111,7 @@ fn take_turns<'d, L: DeskName, W: Wait + Drop, T: Abort + Threads + Wait + Sync,
 }
 
 /// Opens a desk for two sessions over a sheet, has them take turns, and closes it.
-fn life<L: DeskName, T: Abort + Threads + Wait + Sync>(
+fn life<L: DeskName, T: Abort + Threads + Wait + Clock + Sync>(
     rt: &T,
     alloc: Global,
     parts: Parts,
@@ -122,7 +126,7 @@ fn life<L: DeskName, T: Abort + Threads + Wait + Sync>(
 }
 
 /// Does what two sessions do at a desk of an empty sheet.
-fn at_a_desk<T: Abort + Threads + Wait + Sync>(
+fn at_a_desk<T: Abort + Threads + Wait + Clock + Sync>(
     rt: &T,
     alloc: Global,
     acts: &[(usize, Act)],
@@ -132,8 +136,8 @@ fn at_a_desk<T: Abort + Threads + Wait + Sync>(
     life::<Brand, T>(rt, alloc, parts, acts, last);
 }
 
-/// A change is shown at once. One that directly follows it is shown before the replies are sent, and the next one after
-/// that at once again.
+/// A change is shown at once. The next one right after it is shown before the replies are sent, and the one after that
+/// at once again.
 const FOLLOWING: &[(usize, Act)] = &[
     (0, Enter("1", 1)),
     (1, Look(1)),
@@ -159,7 +163,7 @@ const LOOKED_AT: &[(usize, Act)] = &[
     (1, Look(4)),
 ];
 
-/// Who is told of another session's changes, by a pull or by the number of a change of its own, sees them.
+/// A session that learns of another one's changes sees them: by a pull, or by the number of a change of its own.
 const TOLD: &[(usize, Act)] = &[
     (0, Enter("1", 1)),
     (0, Enter("2", 2)),
@@ -191,6 +195,19 @@ const REFUSED: &[(usize, Act)] = &[
     (1, Look(4)),
 ];
 
+/// A session that waits for changes gets the number of the others' changes, and sees them.
+const AWAITED: &[(usize, Act)] = &[
+    (0, Enter("1", 1)),
+    (1, Await(0, 1)),
+    (0, Enter("2", 2)),
+    (0, Enter("3", 3)),
+    (1, Await(1, 3)),
+    (1, Look(3)),
+    (0, Enter("4", 4)),
+    (0, Await(0, 4)),
+    (1, Look(4)),
+];
+
 /// A session that leaves shows what waits.
 const LEFT: &[(usize, Act)] = &[
     (0, Enter("1", 1)),
@@ -199,7 +216,8 @@ const LEFT: &[(usize, Act)] = &[
     (1, Look(1)),
 ];
 
-/// What a session changes is shown to another one as its session is told.
+/// Another session sees a session's changes at the expected moments: at once, before the replies, after a pull, a
+/// refusal or a wait, and once the session leaves.
 #[test]
 fn seats_show_what_they_change(rt: HostRuntime) {
     for (acts, last) in [
@@ -207,6 +225,7 @@ fn seats_show_what_they_change(rt: HostRuntime) {
         (LOOKED_AT, Look(4)),
         (TOLD, Look(7)),
         (REFUSED, Look(4)),
+        (AWAITED, Look(4)),
         (LEFT, Look(3)),
     ] {
         at_a_desk(&rt, rt.alloc(), acts, last);

@@ -15,20 +15,20 @@ use std::process::Abort;
 use std::sync::Wait;
 use std::thread::Threads;
 
-/// What is asked of a seat, and what it answers.
+/// A call at a seat, and its expected answer.
 #[derive(Clone, Copy)]
 enum Asked {
-    /// To enter an entry into a cell: the number of the receipt, which is fresh.
+    /// Enter an entry into a cell: the number of the receipt, which is fresh.
     Enter(&'static str, &'static str, u64),
-    /// To receive the delta made elsewhere: the number of the receipt, and whether it is fresh.
+    /// Receive the delta made elsewhere: the number of the receipt, and whether it is fresh.
     Receive(u64, bool),
-    /// To pull the deltas after a number, at most so many: how many there are, or the refusal.
+    /// Pull deltas after a number, at most this many: how many there are, or the refusal.
     Pull(u64, usize, Result<usize, Refusal>),
-    /// To read a cell: the version and the value.
+    /// Read a cell: the version and the value.
     Read(&'static str, u64, Value),
-    /// To read all cells: the version, and the value of this cell.
+    /// Read all cells: the version, and the value of this cell.
     ReadAll(&'static str, u64, Value),
-    /// How many deltas it appended.
+    /// Count the deltas that the seat appended.
     Count(u64),
 }
 
@@ -55,7 +55,7 @@ fn read_all<L: DeskName>(
     (version, values[cell(rt, name).index()])
 }
 
-/// How many deltas a pull hands out.
+/// How many deltas a pull returns.
 fn pull<L: DeskName, W: Wait + Drop>(
     rt: &impl Wait,
     alloc: Global,
@@ -70,7 +70,7 @@ fn pull<L: DeskName, W: Wait + Drop>(
     }
 }
 
-/// Asks one thing of a seat, and tells whether it answers what it is to.
+/// Makes a call at a seat, and returns whether the answer is the expected one.
 fn answers<L: DeskName, W: Wait + Drop, T: Abort + Threads + Wait + Sync>(
     rt: &T,
     alloc: Global,
@@ -95,7 +95,7 @@ fn answers<L: DeskName, W: Wait + Drop, T: Abort + Threads + Wait + Sync>(
     }
 }
 
-/// Asks one thing of a seat after another.
+/// Makes the calls, one after another.
 fn go_through<L: DeskName, W: Wait + Drop, T: Abort + Threads + Wait + Sync>(
     rt: &T,
     alloc: Global,
@@ -114,7 +114,7 @@ fn go_through<L: DeskName, W: Wait + Drop, T: Abort + Threads + Wait + Sync>(
     }
 }
 
-/// The sheet of a desk that was opened, asked and closed.
+/// The sheet of a desk that was opened, used and closed.
 fn life<L: DeskName, T: Abort + Threads + Wait + Sync>(
     rt: &T,
     alloc: Global,
@@ -151,7 +151,7 @@ fn a_pass_reads_what_it_entered(rt: HostRuntime) {
     assert!(rt; shown == (1, Value::Num(1)));
 }
 
-/// Two seats see each other's edits, count their own, and get a delta's receipt twice, of which one is fresh.
+/// Two seats see each other's edits, and count their own. Both get a delta's receipt, and only the first one is fresh.
 #[test]
 fn two_seats_by_turns(rt: HostRuntime) {
     let parts = Parts::new(sheet_of(&rt, rt.alloc(), 1, &[]), 2);
@@ -179,7 +179,7 @@ fn two_seats_by_turns(rt: HostRuntime) {
     assert!(rt; shown == (4, Value::Num(0)));
 }
 
-/// The deltas of a sheet that had some come before those of the desk, and are pulled with them.
+/// The earlier deltas of a sheet come before those of its desk, and are pulled with them.
 #[test]
 fn a_desk_goes_on_after_a_history(rt: HostRuntime) {
     let before = [("A1", "3"), ("B1", "=[.A1]+1")];
@@ -198,7 +198,7 @@ fn a_desk_goes_on_after_a_history(rt: HostRuntime) {
     assert!(rt; shown == (3, Value::Num(8)));
 }
 
-/// Whether a pass shows nothing any more once its desk is gone, but still tells what it appended.
+/// Whether a pass shows nothing any more once its desk is gone, but still has the number of what it appended.
 fn is_gone<L: DeskName, T: Abort + Threads + Wait + Sync>(
     rt: &T,
     alloc: Global,

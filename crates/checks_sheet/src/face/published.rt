@@ -70,7 +70,7 @@ fn prepared<T: Threads + Sync, M: Ledger>(
     sheet.prepare(rt, alloc, Change::Edit(edit), &mut meter)
 }
 
-/// What is kept of a value.
+/// What a sheet keeps of a value.
 fn keep(alloc: Global, value: Value) -> Result<Kept, Refusal>
     ensures { IfOk result (λ k. value_of k ≡ value) }
 {
@@ -83,7 +83,7 @@ fn keep(alloc: Global, value: Value) -> Result<Kept, Refusal>
     }
 }
 
-/// Cells with what is kept of their values.
+/// The cells with what a sheet keeps of their values.
 fn keep_all(alloc: Global, changes: &[(Cell, Value)]) -> Result<Vec<(Cell, Kept)>, Refusal>
     ensures { IfOk result (λ k. map valued k.items ≡ changes.now) }
 {
@@ -95,7 +95,7 @@ fn keep_all(alloc: Global, changes: &[(Cell, Value)]) -> Result<Vec<(Cell, Kept)
     Ok(kept)
 }
 
-/// The patch of a fresh change.
+/// The patch of a fresh change, which has a delta that wasn't below the state.
 fn patch_of<'a>(
     rt: &impl Abort,
     alloc: Global,
@@ -148,8 +148,8 @@ fn tell<L: Named, R: Wait + Drop>(
     Ok(())
 }
 
-/// The same as `append`, by a second call where the first one is refused: that is `Memory`, and a reader then sees what
-/// it saw.
+/// Appends as `append` does, and calls again if the first call is refused. That refusal is `Memory`, and a reader then
+/// sees what it saw before.
 fn append_again<L: Named, R: Wait + Drop>(
     rt: &impl Abort,
     alloc: Global,
@@ -187,7 +187,7 @@ fn read<L: Named>(
 }
 
 impl<L: Named, R: Wait + Drop> Published<L, R> {
-    /// An empty sheet with its copies and so many readers, 1 to 3: one of them stays with the sheet.
+    /// Opens an empty sheet with its copies and 1 to 3 readers; one of them stays with the sheet.
     pub(crate) fn open(
         rt: &impl Abort,
         keep: R,
@@ -251,7 +251,7 @@ impl<L: Named, R: Wait + Drop> Published<L, R> {
         self.writer.show();
     }
 
-    /// Makes an edit. It tells what the reader sees of a cell, with the version, once the patch is appended, and once
+    /// Makes an edit. Returns what the reader sees of a cell, with the version, after the patch is appended and after
     /// it is published.
     pub(crate) fn go_on<T: Abort + Threads + Sync>(
         self,

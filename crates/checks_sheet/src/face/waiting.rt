@@ -23,7 +23,7 @@ type Sight = (u64, Value, Value);
 enum Step {
     /// An entry is made in a cell, and its patch is posted or published.
     Tell(Telling, &'static str, &'static str, Sight),
-    /// What waits is shown.
+    /// All that waits is shown.
     Show(Sight),
 }
 
@@ -45,8 +45,10 @@ fn tell<L: Named, T: Abort + Threads + Sync, R: Wait + Drop>(
     published.tell(rt, alloc, Edit::Set(cell(rt, name), content), telling)
 }
 
-/// Goes through the steps, of which one shows something. One reader enters after each; another one enters before the
-/// first, and still sees an empty sheet after the last; then it leaves, and sees what the first one saw.
+/// Goes through the steps; at least one of them shows something.
+///
+/// One reader enters after each step. Another one enters before the first step, and still sees an empty sheet after the
+/// last. Then it leaves, and sees what the first reader saw.
 fn go_through<L: Named, T: Abort + Threads + Sync, R: Wait + Drop>(
     rt: &T,
     alloc: Global,
@@ -88,7 +90,7 @@ const SEVEN: Value = Value::Num(7);
 /// What is done with the copies of an empty sheet.
 #[derive(Clone, Copy)]
 enum Trial<'a> {
-    /// These steps are gone through.
+    /// These steps are run.
     Steps(&'a [Step]),
     /// Some patches are posted.
     Post,
@@ -148,7 +150,7 @@ fn a_published_patch_shows_what_waits(rt: HostRuntime) {
     assert!(rt; ended.is_ok());
 }
 
-/// Posts that A1 shows the number of the patch, and tells what a reader sees that then enters.
+/// Posts that A1 shows the number of the patch, and returns what a reader sees that then enters.
 fn count<L: Named, T: Abort + Threads + Sync, R: Wait + Drop>(
     rt: &T,
     alloc: Global,
@@ -163,7 +165,7 @@ fn count<L: Named, T: Abort + Threads + Sync, R: Wait + Drop>(
     Ok((published, reader, seen))
 }
 
-/// Posts six patches, and shows what waits. Before that a reader sees a version, and what A1 shows at it.
+/// Posts six patches, and shows what waits. Before that a reader sees a version, and A1 as of it.
 fn post_some<L: Named, T: Abort + Threads + Sync, R: Wait + Drop>(
     rt: &T,
     alloc: Global,
@@ -182,7 +184,7 @@ fn post_some<L: Named, T: Abort + Threads + Sync, R: Wait + Drop>(
     Ok(())
 }
 
-/// Where memory is refused, as for the patches that wait, all goes well at the next try.
+/// When a post is out of memory, the next one works.
 #[test]
 fn refused_post(rt: HostRuntime) {
     let mut ended = try_anew(&rt, rt.alloc(), NewBook::new(), Trial::Post);

@@ -1,5 +1,5 @@
-//! Which cells a staged change makes show another value: the list of them, and the cell that is told alone where the
-//! change put no other. The expected cells are worked by hand from the rules.
+//! Which cells show another value by a staged change. The change lists them, or names the single cell that it put. The
+//! expected cells are worked by hand from the rules.
 
 ghost use Rattle.std.specs.Prelude.{◌≡◌, true, None, is_some};
 ghost use Rattle.ps_grid.specs.Blanks.{IsBlankOf};
@@ -21,7 +21,7 @@ use std::process::Abort;
 use std::sync::ledger::{Blank, Ledger};
 use std::thread::Threads;
 
-/// A change, the cell that is told alone of it, and the cells that are listed.
+/// A change, the single cell that it names, and the cells that it lists.
 #[derive(Clone, Copy)]
 pub(crate) struct Look {
     change: Tried,
@@ -37,7 +37,7 @@ fn cell_of(rt: &impl Abort, name: Option<&'static str>) -> Option<Cell> {
     }
 }
 
-/// Each listed cell is as expected, and no more are there.
+/// The listed cells are exactly the expected ones.
 fn check_listed(rt: &impl Abort, listed: &[Cell], names: &[&str]) {
     check_count(rt, listed.len() as u64, names.len() as u64, "listed cells");
     for (place, name) in names.iter().enumerate() {
@@ -46,7 +46,7 @@ fn check_listed(rt: &impl Abort, listed: &[Cell], names: &[&str]) {
     }
 }
 
-/// The staged change is told as expected, before the cells are listed and afterwards.
+/// The staged change names and lists the expected cells, before the cells are listed and afterwards.
 fn check_staged(rt: &impl Abort, staging: &mut Staging, look: &Look)
     requires staged { is_some staging.old.staged ≡ true }
     ensures staged { is_some staging.new.staged ≡ true }
@@ -159,7 +159,7 @@ static ALONE: [Look; 6] = [
     },
 ];
 
-/// Where a change put one cell, that cell is told alone if it shows another value.
+/// A change of one cell names that cell if it shows another value.
 #[test]
 fn one_cell_is_told_alone(rt: HostRuntime) -> Result<(), Refusal> {
     at_sheet(&rt, rt.alloc(), 1, 1, Job::Stage(&ALONE))
@@ -206,7 +206,7 @@ static SEVERAL: [Look; 6] = [
     },
 ];
 
-/// Where a change put several cells, or none shows another value, the list tells.
+/// A change that puts several cells, or makes none show another value, has its cells in the list.
 #[test]
 fn several_cells_are_listed(rt: HostRuntime) -> Result<(), Refusal> {
     at_sheet(&rt, rt.alloc(), 1, 1, Job::Stage(&SEVERAL))

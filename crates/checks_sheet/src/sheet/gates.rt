@@ -1,4 +1,5 @@
-//! What a gate sees of a change: how often each worker passes. The expected numbers are worked by hand from the rules.
+//! What a gate sees of a change: how often each worker passes it. The expected numbers are worked by hand from the
+//! rules.
 
 ghost use Rattle.std.specs.Prelude.{◌<◌};
 
@@ -17,7 +18,7 @@ use std::process::Abort;
 use std::sync::atomic::{AtomicU64, Ordering};
 use std::thread::Threads;
 
-/// So many cells from `A2` on, each one more than `A1`.
+/// Formulas for `count` cells from `A2` on, each one more than `A1`.
 fn wide(rt: &impl Abort, alloc: Global, count: usize) -> Result<Batch, Refusal> {
     let mut cells = Vec::new(alloc);
     for place in COLUMNS..COLUMNS.saturating_add(count) {
@@ -27,7 +28,7 @@ fn wide(rt: &impl Abort, alloc: Global, count: usize) -> Result<Batch, Refusal> 
     Ok(Batch::new(cells).expect(rt, "a batch"))
 }
 
-/// Types them as one batch.
+/// Enters them as one batch.
 pub(crate) fn put_wide<R: Abort + Threads + Sync>(
     rt: &R,
     alloc: Global,
@@ -41,13 +42,13 @@ pub(crate) fn put_wide<R: Abort + Threads + Sync>(
 /// A change, and how often the workers pass in it.
 #[derive(Clone, Copy)]
 pub(crate) enum Counted {
-    /// An entry into a cell.
+    /// An entry into a cell, and the number of passes.
     Typed(&'static str, &'static str, u64),
-    /// A delta of several cells.
+    /// A delta of several cells, and the number of passes.
     Delta(&'static [(&'static str, Part)], u64),
 }
 
-/// What is counted on a sheet.
+/// A sheet's steps, its counted changes, and its last version.
 #[derive(Clone, Copy)]
 pub(crate) struct Counts {
     /// the steps before
@@ -69,8 +70,8 @@ impl Gate for Counting {
     }
 }
 
-/// How many of the passes a worker has where so many workers share them evenly: the first ones have one more where that
-/// doesn't come out even.
+/// The passes of one worker if all workers share them evenly. The first workers have one more if that doesn't come out
+/// even.
 fn share_of(passes: u64, workers: u64, worker: u64) -> u64
     requires { 0 < workers }
 {
@@ -83,7 +84,7 @@ fn share_of(passes: u64, workers: u64, worker: u64) -> u64
     }
 }
 
-/// Each of so many workers has passed as often as is its share, and no other has.
+/// Each of the workers has passed as often as its share says, and no other worker has.
 fn check_shares(rt: &impl Abort, gate: &Counting, passes: u64, workers: u64)
     requires { 0 < workers }
 {
@@ -98,7 +99,7 @@ fn check_shares(rt: &impl Abort, gate: &Counting, passes: u64, workers: u64)
     }
 }
 
-/// Makes a change in which a gate is passed so often, which the report says too, by so many workers.
+/// Makes a change by this many workers. They pass the gate as often as expected, and the report says so, too.
 fn count<R: Abort + Threads + Sync>(
     rt: &R,
     alloc: Global,
@@ -148,7 +149,7 @@ fn count_one<R: Abort + Threads + Sync>(
     Ok(())
 }
 
-/// The steps, and then the changes, one after another, each evaluated by so many workers.
+/// Makes the steps, and then the changes, one after another, each evaluated by this many workers.
 pub(crate) fn count_all<R: Abort + Threads + Sync>(
     rt: &R,
     alloc: Global,
@@ -173,21 +174,21 @@ static FEW: Counts = Counts {
     version: 3,
 };
 
-/// The same with 8,193 cells, which are worth two workers.
+/// The same changes with 8,193 cells, which are worth two workers.
 static SOME: Counts = Counts {
     begun: &[Wide(8_193, [1, 8_193, 0, 1])],
     changes: &[Typed("A1", "5", 8_193), Typed("B1", "9", 0)],
     version: 3,
 };
 
-/// The same with 65,640 cells, which are worth sixteen.
+/// The same changes with 65,640 cells, which are worth sixteen.
 static MANY: Counts = Counts {
     begun: &[Wide(65_640, [1, 65_640, 0, 1])],
     changes: &[Typed("A1", "5", 65_640), Typed("B1", "9", 0)],
     version: 3,
 };
 
-/// Two deltas, each of which ends a cycle and begins another.
+/// Two deltas; each ends a cycle and begins another.
 static CYCLES: Counts = Counts {
     begun: TWO_CYCLES,
     changes: &[Delta(OVER, 2), Delta(BACK, 2)],
@@ -211,8 +212,9 @@ static QUIET: Counts = Counts {
 };
 
 /// A gate is passed exactly as often as the report says, for each number of workers: 6,000 times, 8,193 times, 65,640
-/// times, never, twice for each of two deltas, and twice, three times and never. The workers that a level is worth, one
-/// for each 4,096 cells, have even shares of them.
+/// times, never, twice for each of two deltas, and twice, three times and never.
+///
+/// A level is worth one worker for each 4,096 cells, and these workers have even shares of the passes.
 #[test]
 fn gate_counts(rt: HostRuntime) -> Result<(), Refusal> {
     for (workers, of_some, of_many) in [(1, 1, 1), (2, 2, 2), (16, 2, 16)] {

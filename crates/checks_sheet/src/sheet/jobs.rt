@@ -1,4 +1,4 @@
-//! Jobs: what tests do at a sheet of its own. One function alone owns the sheet.
+//! Jobs: what tests do with a sheet of their own. One function alone owns the sheet.
 
 ghost use Rattle.std.specs.Prelude.{◌≤◌};
 ghost use Rattle.ps_grid.specs.declared.parties.TheConstants.{WORKERS};
@@ -20,13 +20,13 @@ use std::thread::Threads;
 pub(crate) enum Job {
     /// These steps, one after another.
     Steps(&'static [Step]),
-    /// Changes through a gate that counts, each evaluated by so many workers.
+    /// Changes through a gate that counts, each evaluated by this many workers.
     Count(&'static Counts, u64),
     /// A change that is given up and made.
     GiveUp,
-    /// Changes that are staged, of which each is given up once and then made.
+    /// Staged changes; each is given up once and then made.
     Stage(&'static [Look]),
-    /// Changes of which a growth may be refused.
+    /// Changes that an allocation failure may refuse.
     Try(&'static Tries),
 }
 

@@ -18,8 +18,8 @@ use std::alloc::Global;
 use std::process::Abort;
 use std::thread::Threads;
 
-/// A delta that turns texts, numbers and formulas into one another, ends a cycle, begins another, makes a cell with a
-/// formula that is referred to a blank one, and gives a cell far out a text.
+/// A delta of seven cells. It turns texts, numbers and formulas into one another, ends a cycle and begins another. It
+/// makes a cell blank to which a formula refers, and gives a cell far out a text.
 static ALL: [(&str, Part); 7] = [
     ("A1", Assigned(9, 2, "=[.C1]")),
     ("B1", Assigned(9, 2, "4")),
@@ -55,7 +55,7 @@ static CHANGES: [(&str, Seen); 8] = [
     ("CZ1024", Text("z")),
 ];
 
-/// The change at a place is that of a cell to a value, which the cell shows afterwards.
+/// The change at a position is that of a cell to a value, which the cell shows afterwards.
 fn check_change(rt: &impl Abort, prepared: &Prepared, place: usize, name: &str, value: Value) {
     let change = prepared.changes().get(place).expect(rt, name);
     let cell = cell(rt, name);
@@ -63,7 +63,7 @@ fn check_change(rt: &impl Abort, prepared: &Prepared, place: usize, name: &str, 
     check(rt, prepared.shown_after().at(cell) == value, name);
 }
 
-/// Each change is as expected, and no more are there.
+/// The changes are exactly the expected ones.
 fn check_changes(rt: &impl Abort, prepared: &Prepared) {
     check_count(
         rt,
@@ -76,7 +76,7 @@ fn check_changes(rt: &impl Abort, prepared: &Prepared) {
     }
 }
 
-/// The delta changes what is expected, or nothing where it is below the state.
+/// The delta makes the expected changes, or none if it is below the state.
 fn check_prepared(rt: &impl Abort, prepared: &Prepared, is_fresh: bool) {
     check(rt, prepared.fresh() == is_fresh, "fresh");
     let report = prepared.report();
@@ -121,7 +121,7 @@ pub(crate) fn give_up_and_make<R: Abort + Threads + Sync>(
     Ok(())
 }
 
-/// A change that was given up changes the same when it is prepared again, and is then made; a delta below the state
+/// A change that was given up has the same effect when it is prepared again, and is then made. A delta below the state
 /// changes nothing.
 #[test]
 fn a_change_is_given_up_and_made(rt: HostRuntime) -> Result<(), Refusal> {

@@ -1,8 +1,8 @@
-//! Changes that are refused, most of them memory for one growth, and the sheet that is then as it was. The expected
-//! values are worked by hand from the rules.
+//! Refused changes, most of them by one allocation failure, which leave the sheet as it was. The expected values are
+//! worked by hand from the rules.
 //!
-//! A test stands whichever single growth is refused in its process (`tests/test_refused.py`): where that is one of what
-//! comes before the call, all is done once more.
+//! A test passes whichever single allocation is refused in its process (`tests/test_refused.py`). If the refused one
+//! comes before the call under test, everything is done once more.
 
 use crate::sheet::jobs::{Job, at_sheet};
 use crate::sheet::script::Asked::{self, Add, Choose, Set, Sub, Unchoose};
@@ -55,7 +55,7 @@ pub(crate) struct Tries {
     shown: &'static [(&'static str, Seen)],
 }
 
-/// The cell at a place in the order of the grid, row by row.
+/// The cell at a position in the order of the grid, row by row.
 fn at(rt: &impl Abort, place: usize) -> Cell {
     Cell::from_index(place).expect(rt, "a cell")
 }
@@ -115,7 +115,7 @@ fn make<R: Abort + Threads + Sync>(
     }
 }
 
-/// Prepares a change and commits it; where it is refused the sheet is back in the slot.
+/// Prepares a change and commits it. If it is refused, the sheet is back in the slot.
 fn prepare_and_commit<R: Abort + Threads + Sync>(
     rt: &R,
     alloc: Global,
@@ -145,8 +145,8 @@ fn change_slot<R: Abort + Threads + Sync>(
     }
 }
 
-/// Makes a change, which has the given report or refusal, by a second call where the first one is refused memory. After
-/// a refusal the sheet is as before.
+/// Makes a change with the given report or refusal, and calls again if the first call is out of memory. After a refusal
+/// the sheet is as before.
 fn try_one<R: Abort + Threads + Sync>(
     rt: &R,
     alloc: Global,
@@ -167,7 +167,7 @@ fn try_one<R: Abort + Threads + Sync>(
     Ok(())
 }
 
-/// Tries changes, one after another, and looks at what cells show then.
+/// Tries changes, one after another, and then looks at what cells show.
 pub(crate) fn try_all<R: Abort + Threads + Sync>(
     rt: &R,
     alloc: Global,
@@ -183,7 +183,7 @@ pub(crate) fn try_all<R: Abort + Threads + Sync>(
     Ok(())
 }
 
-/// Tries changes at an empty sheet, at a second one where memory ran out for what comes before a call.
+/// Tries changes at an empty sheet, and at a second one if the first run is out of memory before a call.
 fn try_again<R: Abort + Threads + Sync>(rt: &R, alloc: Global, tries: &'static Tries) {
     let mut ended = at_sheet(rt, alloc, 1, 1, Job::Try(tries));
     if ended == Err(Refusal::Memory) {
@@ -270,7 +270,7 @@ const CYCLES_SHOWN: &[(&str, Seen)] = &[
     ("F1", Num(8)),
 ];
 
-/// Two deltas, each of which ends a cycle and begins another.
+/// Two deltas; each ends a cycle and begins another.
 static DELTAS: Tries = Tries {
     way: Made,
     changes: &[
@@ -288,7 +288,7 @@ fn refused_receive(rt: HostRuntime) {
     try_again(&rt, rt.alloc(), &DELTAS);
 }
 
-/// The same deltas merged, and then one of which only one cell is new.
+/// The same deltas merged, and then a delta with one cell that is new.
 static MERGES: Tries = Tries {
     way: Made,
     changes: &[
@@ -322,8 +322,8 @@ static PREPARED: Tries = Tries {
     shown: CYCLES_SHOWN,
 };
 
-/// After a refused change, out of memory or for another cause, `prepare` gives the sheet back as it was, and the next
-/// call prepares it.
+/// After a change is refused, out of memory or for another reason, `prepare` gives the sheet back as it was. The next
+/// call prepares the change.
 #[test]
 fn refused_prepare(rt: HostRuntime) {
     try_again(&rt, rt.alloc(), &PREPARED);

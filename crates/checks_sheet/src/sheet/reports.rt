@@ -1,5 +1,5 @@
-//! What a change reports: how many formulas were evaluated, how many are cyclic, and how many levels the others have.
-//! The expected numbers are worked by hand from the rules.
+//! What a change reports: the numbers of evaluated formulas, of cyclic cells, and of levels of the others. The expected
+//! numbers are worked by hand from the rules.
 
 use crate::sheet::jobs::{Job, at_sheet};
 use crate::sheet::script::Part::{self, Assigned};
@@ -8,7 +8,8 @@ use crate::sheet::script::Step::{self, Enter, Receive, Show};
 use crate::sheet::script::{BACK, CYCLE, OVER};
 use ps_grid::Refusal;
 
-/// Two ranges that meet are one reference; what refers to a changed cell is evaluated, and then what refers to that.
+/// Two ranges that meet are one reference. Formulas that refer to a changed cell are evaluated, and then those that
+/// refer to them.
 const REACHED: &[Step] = &[
     Enter("B1", "1", [1, 0, 0, 0]),
     Enter("B2", "=[.C1]", [2, 1, 0, 1]),
@@ -34,7 +35,8 @@ const STAYING: &[Step] = &[
     Show("D1", Num(0)),
 ];
 
-/// Number after number in one cell, with other formulas that refer to it between them, and one of its own.
+/// Number after number in one cell, with other formulas that refer to it between them, and a formula in the cell
+/// itself.
 const FOLLOWED: &[Step] = &[
     Enter("A1", "1", [1, 0, 0, 0]),
     Enter("B1", "=[.A1]", [2, 1, 0, 1]),
@@ -54,7 +56,7 @@ const FOLLOWED: &[Step] = &[
     Show("C1", Num(17)),
 ];
 
-/// A number and a text that look alike are two values: what refers to the cell is evaluated.
+/// A number and a text that look alike are two values: formulas that refer to the cell are evaluated.
 const ALIKE: &[Step] = &[
     Enter("A1", "5", [1, 0, 0, 0]),
     Enter("B1", "=COUNT([.A1])", [2, 1, 0, 1]),
@@ -71,7 +73,8 @@ const TURNED: &[(&str, Part)] = &[
     ("C1", Assigned(2, 2, "=[.A1]")),
 ];
 
-/// One delta ends a cycle and begins another: what the old one held is evaluated, and what leads to the new one isn't.
+/// One delta ends a cycle and begins another: the cells of the old one are evaluated, and those that lead to the new
+/// one aren't.
 const TURNING: &[Step] = &[
     Enter("A1", "=[.B1]", [1, 1, 0, 1]),
     Enter("B1", "=[.A1]", [2, 0, 2, 0]),
@@ -166,7 +169,7 @@ const OUTSIDE: &[Step] = &[
     Enter("D1", "5", [5, 1, 1, 1]),
 ];
 
-/// A1 no longer refers to B1, which refers to it: two levels, and no cyclic cell.
+/// A1 no longer refers to B1, which refers to A1: two levels, and no cyclic cell.
 const BEFORE: &[Step] = &[
     Enter("A1", "=[.B1]", [1, 1, 0, 1]),
     Enter("B1", "=[.A1]", [2, 0, 2, 0]),

@@ -1,4 +1,4 @@
-//! Scripts: steps at a sheet, with what each returns and what the cells show then.
+//! Scripts: steps at a sheet, with what each returns and what the cells then show.
 
 ghost use Rattle.std.specs.Prelude.{◌≡◌, ◌<◌};
 ghost use Rattle.ps_grid.specs.Blanks.{IsBlankOf};
@@ -23,7 +23,7 @@ use std::thread::Threads;
 
 pub(crate) const CYCLE: Seen = Failed(Fault::Cycle);
 
-/// What a change reports: the version, and how many formulas were evaluated, cells are cyclic and levels there are.
+/// The report of a change: the version, and the numbers of evaluated formulas, of cyclic cells and of levels.
 pub(crate) type Figures = [u64; 4];
 
 /// What is asked of a cell.
@@ -50,7 +50,7 @@ pub(crate) enum Seen {
     Empty,
     Num(i64),
     Text(&'static str),
-    /// A set of options, each of which is a bit.
+    /// A set of options, one bit for each.
     Options(u64),
     Failed(Fault),
 }
@@ -58,15 +58,16 @@ pub(crate) enum Seen {
 /// A step of a script.
 #[derive(Clone, Copy)]
 pub(crate) enum Step {
-    /// Asks for a change of a cell, and has this answer: the version or a refusal.
+    /// Asks for a change of a cell. The answer is this version or refusal.
     Ask(&'static str, Asked, Result<u64, Refusal>),
-    /// Enters an entry into a cell, and has this report.
+    /// Enters an entry into a cell. The report is this one.
     Enter(&'static str, &'static str, Figures),
-    /// Receives a delta of several cells, and has this report.
+    /// Receives a delta of several cells. The report is this one.
     Receive(&'static [(&'static str, Part)], Figures),
     /// Looks at a cell.
     Show(&'static str, Seen),
-    /// Types into so many cells from `A2` on that each is one more than `A1`, as one batch, and has this report.
+    /// Enters formulas into this many cells from `A2` on, each one more than `A1`, as one batch. The report is this
+    /// one.
     Wide(usize, Figures),
 }
 
@@ -280,7 +281,7 @@ pub(crate) fn delta_of(
     Ok(Delta::new(alloc, cells)?.expect(rt, "a delta"))
 }
 
-/// The value that is seen.
+/// The value that a cell is to show.
 pub(crate) fn value(rt: &impl Abort, seen: &Seen) -> Value {
     match seen {
         Empty => Value::Empty,
@@ -291,17 +292,17 @@ pub(crate) fn value(rt: &impl Abort, seen: &Seen) -> Value {
     }
 }
 
-/// What is said of a name holds.
+/// The statement about this name holds.
 pub(crate) fn check(rt: &impl Abort, holds: bool, name: &str) {
     assert!(rt; holds, "{name}");
 }
 
-/// What is said of a place holds.
+/// The statement about this position holds.
 pub(crate) fn check_place(rt: &impl Abort, holds: bool, place: usize) {
     assert!(rt; holds, "{place}");
 }
 
-/// There are as many as expected.
+/// The count is the expected one.
 pub(crate) fn check_count(rt: &impl Abort, count: u64, expected: u64, name: &str) {
     assert_eq!(rt; count, expected, "{name}");
 }

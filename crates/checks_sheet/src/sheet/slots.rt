@@ -1,4 +1,5 @@
-//! A sheet in a slot, which is empty while a change of it is prepared: so a test owns no sheet across an early return.
+//! A sheet in a slot, so that a test owns no sheet across an early return. The slot is empty while a change is
+//! prepared.
 
 ghost use Rattle.ps_grid.specs.Blanks.{IsBlankOf};
 
@@ -52,7 +53,7 @@ pub(crate) fn entered(
     Ok(Change::Edit(Edit::Set(cell(rt, name), content)))
 }
 
-/// The sheet of a slot, which is empty only while a change is under way.
+/// The sheet of a slot. The slot must not be empty: it is only while a change is under way.
 pub(crate) fn taken(rt: &impl Abort, slot: &mut Option<Sheet>) -> Sheet {
     slot.take().expect(rt, "a sheet")
 }
@@ -74,7 +75,7 @@ pub(crate) fn put_back(slot: &mut Option<Sheet>, sheet: Sheet) {
     *slot = Some(sheet);
 }
 
-/// Puts the sheet back with the change, and tells the report.
+/// Puts the sheet back with the change, and returns the report.
 pub(crate) fn commit(slot: &mut Option<Sheet>, prepared: Prepared) -> Report {
     let (sheet, report) = prepared.commit();
     put_back(slot, sheet);

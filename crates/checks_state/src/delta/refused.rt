@@ -1,7 +1,7 @@
-//! Joins of which one growth is refused, and which are then called again.
+//! Joins that are called again after one allocation is refused.
 //!
-//! A test stands whichever single growth is refused in its process (`tests/test_refused.py`): where that is one of what
-//! comes before the call, all is done once more.
+//! A test passes whichever single allocation is refused in its process (`tests/test_refused.py`). If the refused one
+//! comes before the call under test, everything is done once more.
 
 use super::Part::{Added, Assigned, Chosen};
 use super::{
@@ -13,8 +13,8 @@ use ps_lattice::Join;
 use std::alloc::Global;
 use std::process::Abort;
 
-/// Joins a delta, by a second call where the first one is refused. Whether that refusal was `Memory` and left each cell
-/// as it is in the twin.
+/// Joins a delta, and calls again if the first call is refused. Returns whether that refusal was `Memory` and left each
+/// cell as it is in the twin.
 fn join_again(alloc: Global, grid: &mut Grid, twin: &Grid, delta: &Delta) -> Result<bool, Refusal> {
     match grid.join(alloc, delta) {
         Ok(()) => Ok(true),
@@ -26,7 +26,7 @@ fn join_again(alloc: Global, grid: &mut Grid, twin: &Grid, delta: &Delta) -> Res
     }
 }
 
-/// A counter, a set and numbers, some of them in blocks of which no cell is written.
+/// A counter, a set and numbers, some of them in blocks that have no cell yet.
 static CHANGE: [(usize, Part); 5] = [
     (0, Added(2, 9)),
     (1, Chosen(2, true)),
@@ -35,7 +35,7 @@ static CHANGE: [(usize, Part); 5] = [
     (LAST, Assigned(1, 1, 8)),
 ];
 
-/// Whether the change came to the grid of the first, the third and the fifth of the six deltas.
+/// Whether the grid of the first, the third and the fifth of the six deltas has the change.
 fn is_changed(rt: &impl Abort, grid: &Grid) -> bool {
     number_at(rt, grid, 0) == Some(3)
         && value_at(rt, grid, 0) == 14
@@ -56,7 +56,7 @@ fn is_joined(
     Ok(is_kept && grid.covers(change) && is_changed(rt, grid))
 }
 
-/// The same of a grid of its own.
+/// The check of [`is_joined`], with a grid made here.
 fn refuse_own(
     rt: &impl Abort,
     alloc: Global,
@@ -67,13 +67,13 @@ fn refuse_own(
     is_joined(rt, alloc, &mut grid, twin, change)
 }
 
-/// The same beside a twin.
+/// The same check, with a twin made here, too.
 fn refuse_beside(rt: &impl Abort, alloc: Global, change: &Delta) -> Result<bool, Refusal> {
     let twin = grid_of(rt, alloc, &[SIX[0], SIX[2], SIX[4]])?;
     refuse_own(rt, alloc, &twin, change)
 }
 
-/// The same of the change.
+/// The same check, with the change made here, too.
 fn refuse_join(rt: &impl Abort, alloc: Global) -> Result<bool, Refusal> {
     let change = delta_of(rt, alloc, &CHANGE)?;
     refuse_beside(rt, alloc, &change)
@@ -89,7 +89,7 @@ fn refused_join(rt: HostRuntime) {
     assert!(rt; found == Ok(true));
 }
 
-/// The join of the deltas, by a second call where the first one is refused memory.
+/// The join of the deltas; calls again if the first call is out of memory.
 fn joined_again(rt: &impl Abort, alloc: Global, deltas: &[Delta]) -> Result<Delta, Refusal> {
     match joined(rt, alloc, deltas) {
         Err(Refusal::Memory) => joined(rt, alloc, deltas),
@@ -97,7 +97,7 @@ fn joined_again(rt: &impl Abort, alloc: Global, deltas: &[Delta]) -> Result<Delt
     }
 }
 
-/// Whether the join of the six deltas has the two cells that they name; it leaves in a grid what they leave.
+/// Whether the join of the six deltas has the two cells that they name, and leaves in a grid what they leave.
 fn refuse_joined(rt: &impl Abort, alloc: Global) -> Result<bool, Refusal> {
     let deltas = six(rt, alloc)?;
     let joined = joined_again(rt, alloc, &deltas)?;

@@ -25,7 +25,7 @@ are_alone (Sole c k) = true
 are_alone Alone = true
 are_alone Region = false
 
--- the touched cells with what is kept of them at first, where these are listed but for a sole one
+-- the touched cells with what is stored for them at first: all are listed, except a sole one
 abbrev pub firsts_by : Beginning → List (ℕ × Kept) → List (ℕ × Kept)
 firsts_by (Sole c k) cells = (c, k) ∷ []
 firsts_by Alone cells = cells

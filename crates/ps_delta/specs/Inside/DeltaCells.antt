@@ -1,4 +1,4 @@
--- What a delta keeps: one cell with its state, or a list of them.
+-- What a delta stores: one cell with its state, or a list of them.
 use Rattle.std.specs.Prelude.{[], ◌∷◌}
 use Rattle.std.specs.Arc.{arc_value}
 use Rattle.ps_delta.specs.declared.delta_cells.DeltaCells.{DeltaCells}

@@ -1,4 +1,4 @@
--- What a formula keeps beside its tree: its canonical text, which has that tree, and its references as rectangles.
+-- What a formula stores beside its tree: its canonical text, which has that tree, and its references as rectangles.
 use Rattle.std.specs.Prelude.{ℕ, ◌≡◌, ◌≤◌, List, [], length}
 use Rattle.ps_grid.specs.Rectangle.{Area}
 use Rattle.ps_formula.specs.Tree.{Tree}

@@ -17,18 +17,18 @@ use Rattle.ps_formula.specs.Grammar.{accepts, level_of, takes_ranges}
 use Rattle.ps_formula.specs.Tree.{Tree, Item, number, reference, signed, joined, group, call, expression, range}
 use Rattle.ps_formula.specs.Tree.{no_items, in_row}
 
--- what a refused call says of what was read: nothing where it was out of memory
+-- what a refusal says of what was there to read: nothing where it was out of memory
 abbrev pub Refuses : {Y : Type 0} → Refusal → Option Y → Type 0
 Refuses Formula read = read ≡ None
 Refuses Memory read = Unit {0}
 Refuses _ read = ⊥
 
--- a call gives what was read, or is refused
+-- a call returns what was read, or is refused
 abbrev pub Gives : {X Y : Type 0} → (X → Y) → Result X Refusal → Option Y → Type 0
 Gives view (Ok x) read = read ≡ Some (view x)
 Gives view (Err e) read = Refuses e read
 
--- the second where the first is none, else the third of what it holds
+-- y where there is no x, else f of x
 abbrev pub either_way : {X Y : Type 0} → Option X → Y → (X → Y) → Y
 either_way None y f = y
 either_way (Some x) y f = f x
@@ -56,7 +56,7 @@ unfoldable mutual
   level_at zero l ts = None
   level_at (suc n) l ts = option_and_then (λ a. more_at n l a.0 a.1) (prefixed_at n ts)
 
-  -- the operand goes on as far as the operators of levels below l do, each with an operand of its own level
+  -- the operand grows while an operator of a level below l follows, each with an operand of its own level
   pub more_at : ℕ → ℕ → Tree → List Token → Option (Tree × List Token)
   more_at zero l a ts = None
   more_at (suc n) l a ts =

@@ -45,7 +45,7 @@ pub record IsAhead (spans : List Span) (y : ℕ) (starts ends : List ℕ) (runs 
   pub later : IsWalk spans y starts ends runs (next + 1)
   pub found : (next ≡ CELLS) ⊎ ((next < CELLS) × (refers_at spans y next ≡ true))
 
--- a walk that has come to its first cell from `least` on, CELLS if there is none
+-- a walk that is at its first cell from `least` on, CELLS if there is none
 pub record IsMoved (spans : List Span) (y : ℕ) (starts ends : List ℕ) (runs least next : ℕ) : Type 0 where
   pub ahead : IsAhead spans y starts ends runs next
   pub none_passed : cells_from (refers_at spans y) least CELLS ≡ cells_from (refers_at spans y) next CELLS

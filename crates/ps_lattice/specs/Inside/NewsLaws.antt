@@ -13,7 +13,7 @@ use Rattle.ps_lattice.specs.Inside.News.{newer_mark, newer_total, newer_count}
 some_is : {X : Type 0} (a b : X) → Some a ≡ Some b → a ≡ b
 some_is a b h = ap (λ o. unwrap_or o a) h
 
--- of a value where nothing is, all is new
+-- where there is no value, all of a value is new
 pub all_new : {X : Type 0} (f : X → X → X) → ((x : X) → f x x ≡ x) → (y : X)
     → IsNewsOf (both_of f) None (Some y) (Some y)
 all_new f idem y = record {
@@ -79,7 +79,7 @@ count_covers x y h =
     both _ _ (covers x.added y.added (ap (λ (c : Count). c.added) h))
     (covers x.subtracted y.subtracted (ap (λ (c : Count). c.subtracted) h))
 
--- the counts of which each that isn't above is 0
+-- the new counts: each that isn't above the old one is 0
 abbrev above : Count → Count → Count
 above x y = record { added = newer_total x.added y.added; subtracted = newer_total x.subtracted y.subtracted }
 

@@ -19,9 +19,8 @@ is_ready formula left c = formula c && (slice_index_or left c 0 == 0)
 abbrev pub is_held : (ℕ → Bool) → List ℕ → ℕ → Bool
 is_held formula left c = formula c && not (slice_index_or left c 0 == 0)
 
--- The queue up to `head` is walked; up to `end` it has the cells of the levels up to k, of which those from `start`
--- on are of level k;
--- from `end` on it has cells of the next level.
+-- The queue up to `head` is walked. Up to `end` it has the cells of the levels up to k, and those from `start` on are
+-- of level k. From `end` on it has cells of the next level.
 pub record Levelling (refers : References) (pending frame : ℕ → Bool) (n start head end k : ℕ)
     (left level order : List ℕ) : Type 0 where
   pub started : start ≤ head

@@ -1,4 +1,4 @@
--- What a session tells of a line, and how its replies are counted.
+-- What a session replies to a line, and how its replies are counted.
 use Rattle.std.specs.Prelude.{◌≡◌, ◌+◌, ◌-◌, ◌<◌, ◌^◌, ℕ, Bool, List, Option, Result, MatchResult}
 use Rattle.std.specs.Prelude.{length, take, min, if◌then◌else◌}
 use Rattle.std.specs.Io.KnownBytes.{Appends}

@@ -6,7 +6,7 @@ use Rattle.ps_session.specs.Keeping.{Halted}
 use Rattle.ps_session.specs.Transcript.{Answered, Cut, has_reply}
 use Rattle.ps_lines.specs.Streams.{Answering, Run, Splits}
 
--- so many lines had a reply, from this number on, or the greatest 64-bit number where there are more
+-- how many lines had a reply, counted on from this number, or the greatest 64-bit number if there are more
 abbrev pub counted_from : ℕ → List (List ℕ) → ℕ
 counted_from base lines = min (base + count_by has_reply lines) (2 ^ 64 - 1)
 
@@ -46,7 +46,7 @@ IsUnderWay {State} Line last pending contents answered =
     × Stands Line first written base read last pending contents answered
 
 -- the sink failed before the end of the input: the reply to one line was cut; or every line was answered, and what
--- waits could not be handed on; or, where replies are held back, the first lines were answered
+-- waits could not be sent; or, where replies are held back, the first lines were answered
 abbrev pub Breaks : {State : Type 0} → Answering State → Type 0 → State → Option (List ℕ) → List ℕ → State
     → Option (List ℕ) → Type 0
 Breaks Line holds_back first written read last contents =

@@ -1,5 +1,5 @@
--- Reading the longest token at the front of a text. This is no part of what a token is (that is
--- `Text`): the code is proved equal to it, and laws in proofs/ tie it to `IsToken` on both sides.
+-- Reading the longest token at the front of a text. What a token is stands in `Text`, not here: the code is proved
+-- equal to this reading, and laws in proofs/ tie it to `IsToken` on both sides.
 use Rattle.std.specs.Prelude.{ℕ, ◌^◌, ◌&&◌, ◌==◌, List, Option, Some, None, pos, nat_lt}
 use Rattle.std.specs.Prelude.{take, drop, slice_index, option_and_then, if◌then◌else◌}
 use Rattle.std.specs.Char.{is_ascii_digit, is_ascii_uppercase, is_ascii_alphabetic}
@@ -33,7 +33,7 @@ unmarked s = if slice_index s 0 == 36 then drop 1 s else s
 abbrev pub digits_at : List ℕ → ℕ
 digits_at s = prefix_len is_ascii_digit s
 
--- .. capital letters, of which a column has two at most
+-- how many capital letters stand at the front, at most two
 abbrev pub capitals_at : List ℕ → ℕ
 capitals_at s = prefix_len is_ascii_uppercase (take 2 s)
 
@@ -74,11 +74,11 @@ range_at c s =
     (after 46 t))
     (after 58 s)
 
--- the reference that ends after its corner
+-- the reference whose corner was read and whose bracket is closed
 unfoldable pub reference_at : ℕ → List ℕ → Option (Token × List ℕ)
 reference_at c s = option_map (λ t. (Reference c, t)) (after 93 s)
 
--- the reference or the range whose bracket was read
+-- the reference or the range whose bracket was opened
 unfoldable pub bracketed_at : List ℕ → Option (Token × List ℕ)
 bracketed_at s =
     option_and_then
@@ -120,7 +120,7 @@ token_of_one a =
     else (if a == 59 then Some Separator
     else None))))))))
 
--- the sign at the front, of two bytes where it can be
+-- the sign at the front; two bytes are read as one operator where they are one
 unfoldable pub sign_at : List ℕ → Option (Token × List ℕ)
 sign_at s =
     option_or

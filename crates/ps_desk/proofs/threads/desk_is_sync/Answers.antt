@@ -4,6 +4,7 @@ use denote.Param.Send.{IsSend, IsSync, sendable}
 use denote.Param.SendFields.{declared_sync, as_row_sync}
 use denote.Struct.Declared as S
 use Rattle.std.proofs.Crossing.{crosses}
+use Rattle.std.specs.contracts.sync.Condvar as Condvar
 use Rattle.std.specs.contracts.sync.Mutex as Mutex
 use Rattle.ps_desk.specs.contracts.state.DeskState as state
 use Rattle.ps_desk.specs.contracts.desk.Desk.TheInside as inside
@@ -11,6 +12,9 @@ use Rattle.ps_desk.proofs.threads.desk_is_sync.Goals as goal
 
 lock_sync : (R : RattleType) → IsSend R → IsSync (Mutex.the_row R)
 lock_sync R s = search (crosses, sendable, s)
+
+bell_sync : IsSync (Condvar.the_field).row
+bell_sync = search (crosses, sendable)
 
 -- from what is known of the parts that threads may share the whole
 pub returns : goal.returns
@@ -22,6 +26,6 @@ returns g c =
     let whole : IsSync (S.row (inside.the_type L W g.L.DeskName g.L.Named g.L.Ledger)) =
     declared_sync (inside.the_type L W g.L.DeskName g.L.Named g.L.Ledger) (
       as_row_sync (Mutex.the_field R) (lock_sync R h),
-      (search sendable, (search sendable, tt)),
+      (as_row_sync Condvar.the_field bell_sync, (search sendable, (search sendable, tt))),
     ) in
     record { shared = λ d b o κ x. (whole.shared x.0 b o κ, tt) }

@@ -1,10 +1,10 @@
-use Rattle.std.proofs.Common.{◌∙◌, ◌<◌, drop, inl, refl, subst}
+use Rattle.std.proofs.Common.{◌∙◌, ◌<◌, drop, inl, inr, refl, subst}
 use Rattle.std.specs.Io.KnownBytes.{Appends}
 use Rattle.ps_device.proofs.DeviceLemmas.{rest-range}
 use Rattle.ps_lines.specs.Feeding.{without_return}
 use Rattle.ps_peers.specs.Peers.{PutsSome}
 use Rattle.ps_lines.specs.PushLine.{push_text}
-use Rattle.ps_peers.proofs.ExchangeLemmas.{followed_end, followed_more, halted_cut}
+use Rattle.ps_peers.proofs.ExchangeLemmas.{followed_end, followed_more, followed_wait, halted_before, halted_cut}
 use Rattle.ps_peers.proofs.follower.follow.Goals as goal
 
 pub returns-in-Err-write_push-clause-halted : goal.returns-in-Err-write_push-clause-halted
@@ -12,7 +12,7 @@ returns-in-Err-write_push-clause-halted g c =
     let due = rw c.in-Ok-Group.field-0-is at c.in-Ok-Group.ensures.next in
     let line = without_return c.next_due.new.from.line in
     let delta = drop c.in-Ok-Group.start line in
-    halted_cut c.args.from.now c.pulls.from c.next_due.new.from (g.O.Sink.contents c.args.out.now)
+    halted_cut _ c.args.from.now c.pulls.from c.next_due.new.from (g.O.Sink.contents c.args.out.now)
     (g.O.Sink.contents c.pulls.out) (g.O.Sink.contents c.write_push.new.out)
     c.pulls.version c.pulls.invariant.followed _ (push_text delta) c.in-Ok-Group.last
     (subst (λ n. n < g.O.Sink.failures c.write_push.new.out) c.pulls.invariant.second
@@ -27,7 +27,7 @@ pulls-preserved-in-Ok-Group g c =
     let line = without_return c.next_due.new.from.line in
     let delta = drop c.in-Ok-Group.start line in
     record {
-      followed = followed_more c.args.from.now c.pulls.from c.next_due.new.from (g.O.Sink.contents c.args.out.now)
+      followed = followed_more _ c.args.from.now c.pulls.from c.next_due.new.from (g.O.Sink.contents c.args.out.now)
           (g.O.Sink.contents c.pulls.out) (g.O.Sink.contents c.write_push.new.out)
           c.pulls.version c.pulls.invariant.followed (push_text delta) c.in-Ok-Group.last
           due.0 (inl (delta, due.1.0, refl))
@@ -43,7 +43,7 @@ returns-in-Ok-End-clause-all g c = λ _.
     let due = rw c.in-Ok-End.field-0-is at c.in-Ok-End.ensures.next in
     record {
       version = c.pulls.version;
-      followed = followed_end c.args.from.now c.pulls.from c.next_due.new.from (g.O.Sink.contents c.args.out.now)
+      followed = followed_end _ c.args.from.now c.pulls.from c.next_due.new.from (g.O.Sink.contents c.args.out.now)
           (g.O.Sink.contents c.pulls.out) (g.O.Sink.contents c.pulls.out)
           c.pulls.version c.pulls.invariant.followed due.0 due.1 refl;
       ended = due.1;
@@ -52,11 +52,37 @@ returns-in-Ok-End-clause-all g c = λ _.
 pub pulls-preserved : goal.pulls-preserved
 pulls-preserved g c =
     let due = rw c.in-Ok-End.field-0-is at c.in-Ok-End.ensures.next in
+    let news = rw c.in-Ok-true.field-0-test at c.in-Ok-true.ensures.news in
+    let ended = followed_end _ c.args.from.now c.pulls.from c.next_due.new.from
+    (g.O.Sink.contents c.args.out.now) (g.O.Sink.contents c.pulls.out) (g.O.Sink.contents c.pulls.out)
+    c.pulls.version c.pulls.invariant.followed due.0 due.1 refl in
     record {
-      followed = followed_end c.args.from.now c.pulls.from c.next_due.new.from (g.O.Sink.contents c.args.out.now)
-          (g.O.Sink.contents c.pulls.out) (g.O.Sink.contents c.pulls.out)
-          c.pulls.version c.pulls.invariant.followed due.0 due.1 refl;
-      first = due.0.calm ∙ c.pulls.invariant.first;
+      followed = followed_wait _ c.args.from.now c.next_due.new.from c.await_news.new.from
+          (g.O.Sink.contents c.args.out.now) (g.O.Sink.contents c.pulls.out) (g.O.Sink.contents c.pulls.out)
+          c.pulls.version ended c.if-until_now.false news.0 news.1;
+      first = news.0.calm ∙ due.0.calm ∙ c.pulls.invariant.first;
       second = c.pulls.invariant.second;
       flushed = c.pulls.invariant.flushed;
     }
+
+pub returns-in-Ok-false-clause-left : goal.returns-in-Ok-false-clause-left
+returns-in-Ok-false-clause-left g c = λ follows.
+    let due = rw c.in-Ok-End.field-0-is at c.in-Ok-End.ensures.next in
+    record {
+      middle = c.next_due.new.from;
+      version = c.pulls.version;
+      followed = followed_end _ c.args.from.now c.pulls.from c.next_due.new.from
+          (g.O.Sink.contents c.args.out.now) (g.O.Sink.contents c.pulls.out) (g.O.Sink.contents c.pulls.out)
+          c.pulls.version c.pulls.invariant.followed due.0 due.1 refl;
+      closed = inr (follows, rw c.in-Ok-false.field-0-test at c.in-Ok-false.ensures.news);
+    }
+
+pub returns-in-Err-await_news-clause-halted : goal.returns-in-Err-await_news-clause-halted
+returns-in-Err-await_news-clause-halted g c =
+    let due = rw c.in-Ok-End.field-0-is at c.in-Ok-End.ensures.next in
+    let ended = followed_end _ c.args.from.now c.pulls.from c.next_due.new.from
+    (g.O.Sink.contents c.args.out.now) (g.O.Sink.contents c.pulls.out) (g.O.Sink.contents c.pulls.out)
+    c.pulls.version c.pulls.invariant.followed due.0 due.1 refl in
+    halted_before _ c.args.from.now c.next_due.new.from c.await_news.new.from (g.O.Sink.contents c.args.out.now)
+    (g.O.Sink.contents c.pulls.out) (g.O.Sink.contents c.pulls.out) c.pulls.version ended _ refl
+    c.in-Err-await_news.ensures.taken

@@ -39,6 +39,6 @@ returns c =
     let with_talk = c.in_ok-subcommand-6.ensures.shape c.in_ok-talk_command.ensures.local
     ∙ ap₂ with_subcommand with_follow (ap (λ (a : App). a.top) c.in_ok-talk_command.ensures.app) in
     IfOk-weaker c.subcommand-7.result _ _
-    (λ command h. h.shape c.squash_command.ensures.local
-    ∙ ap₂ with_subcommand with_talk (ap (λ (a : App). a.top) c.squash_command.ensures.app))
+    (λ command h. h.shape c.in_ok-squash_command.ensures.local
+    ∙ ap₂ with_subcommand with_talk (ap (λ (a : App). a.top) c.in_ok-squash_command.ensures.app))
     c.subcommand-7.ensures

@@ -11,8 +11,8 @@ returns-in_err-start-clause-cut g c =
     rw (p.1) (λ first written base read s. cut_rest _ first written base read c.args.piece.now c.turns.start _ _
     (c.in_err-start.ensures.cut first written base _ (c.turns.invariant.stands first written base read s)))
 
-pub returns-then-waits-ge-PIECE_BYTES-clause-stands : goal.returns-then-waits-ge-PIECE_BYTES-clause-stands
-returns-then-waits-ge-PIECE_BYTES-clause-stands g c = λ first written base read s.
+pub returns-then-is_to_release-clause-stands : goal.returns-then-is_to_release-clause-stands
+returns-then-is_to_release-clause-stands g c = λ first written base read s.
     stands_more _ first written base read c.args.piece.now c.turns.start c.in_ok-start.field-0 _ _ _ _
     (c.in_ok-start.ensures.stands first written base _ (c.turns.invariant.stands first written base read s))
 

@@ -1,7 +1,7 @@
 use Rattle.std.proofs.Common.{rules, sym, ◌∙◌}
 use Rattle.clap.specs.Words.{found_of}
 use Rattle.ps_words.proofs.Subcommands.{gives_number}
-use Rattle.ps_words.proofs.words.pause_of.Goals as goal
+use Rattle.ps_words.proofs.words.wide_number_of.Goals as goal
 
 pub returns-in-Some-clause-number : goal.returns-in-Some-clause-number
 returns-in-Some-clause-number c = gives_number (found_of c.args.matches.now) c.args.id.now c.in-Some.number

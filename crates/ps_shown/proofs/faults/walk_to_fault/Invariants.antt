@@ -1,0 +1,14 @@
+use Rattle.std.proofs.Common.{◌≡◌, ◌≤◌, ◌<◌, ◌-◌, ℕ, None}
+use Rattle.ps_shown.specs.Faults.{fault_kept}
+use Rattle.ps_shown.proofs.faults.walk_to_fault.Given as goal
+
+-- no fault is kept at the places so far
+abbrev pub invariant-cells : goal.invariant-cells
+invariant-cells l = record {
+  order : l.from ≤ l.next;
+  within : l.next ≤ l.to;
+  clean : (j : ℕ) → l.from ≤ j → j < l.next → fault_kept l.kept j ≡ None;
+}
+
+abbrev pub decreases-cells : goal.decreases-cells
+decreases-cells l = l.to - l.next
