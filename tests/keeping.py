@@ -47,6 +47,11 @@ class KeepingTest(ProgramTest):
         """What is told once the session was pushed changes of its own replica that the file hasn't got."""
         return lines(f"replica {replica} makes changes elsewhere, too, or lines of {self.file} were lost")
 
+    def lost(self):
+        """What is told once the file keeps the sheet no longer."""
+        why = "it can't be written, or it was removed, replaced or cut"
+        return lines("err 20 device", f"{self.file} isn't kept any more: {why}")
+
     def run_kept(self, given=b"", *words, **how):
         """How `run --keep` ends that is given these bytes."""
         files = {"stdin": subprocess.PIPE, "stdout": subprocess.PIPE}

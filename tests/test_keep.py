@@ -144,6 +144,18 @@ class Meanwhile(KeepingTest):
         self.assertEqual(self.file.read_bytes(), text_of(*given))
 
 
+    def test_a_file_that_was_replaced_before_the_lock_was_had_is_refused(self):
+        """What would be written to it would be lost."""
+        given = ("set A1 5", "set A1 6")
+        self.run_kept(lines(*given))
+        with self.halted("l") as ended:
+            self.assertEqual(run("squash", "--keep", str(self.file)).status, 0)
+            small = self.file.read_bytes()
+            self.assertEqual(ended(b"set A1 7\n"), Ended(1, b"", DEVICE_FAILED))
+        self.assertEqual(self.file.read_bytes(), small)
+        self.assertEqual(self.run_kept(b"set A1 7\n"), Ended(0, b"ok 2\n", self.opened(1)))
+
+
 class Elsewhere(KeepingTest):
     def assert_told(self, *given, told=b"", opened=0, replica=1, words=()):
         """These lines have their replies, and standard error has this once the file was opened."""

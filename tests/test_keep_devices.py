@@ -74,7 +74,7 @@ class Failing(Spoilt):
                         self.assertEqual(ended, Ended(0, replies_to(*EDITS), self.opened(0)))
                         continue
                     self.assertEqual(ended.status, 1)
-                    self.assertIn(ended.error, (DEVICE_FAILED, self.opened(0) + DEVICE_FAILED))
+                    self.assertIn(ended.error, (DEVICE_FAILED, self.opened(0) + self.lost()))
                     self.assert_acknowledged_is_kept(EDITS, ended, is_cut=True)
 
     def assert_fails_at_each(self, letter, error):
@@ -92,7 +92,7 @@ class Failing(Spoilt):
                             # (all at once takes fewer of them)
                             continue
                         self.assertEqual(ended.status, 1)
-                        self.assertIn(ended.error, (DEVICE_FAILED, self.opened(0) + DEVICE_FAILED))
+                        self.assertIn(ended.error, (DEVICE_FAILED, self.opened(0) + self.lost()))
                         answered.add(self.assert_acknowledged_is_kept(EDITS, ended, is_cut=True))
         # each change was once the last one that was answered, or none was
         self.assertEqual(answered, {*range(len(session_of(*EDITS).sheet.history))})
@@ -111,7 +111,7 @@ class Failing(Spoilt):
         self.file.unlink()
         with self.spoiling("s", start + 2, start + 2, errno.EIO) as (how, counted):
             ended = self.one_by_one(("set A1 1", "set A1 2", "set A1 3", "set A1 4"), **how)
-            self.assertEqual(ended, Ended(1, b"ok 1\n", self.opened(0) + DEVICE_FAILED))
+            self.assertEqual(ended, Ended(1, b"ok 1\n", self.opened(0) + self.lost()))
             self.assertEqual(counted().syncs, start + 2)
         # what no sync has confirmed is cut off, since a later one may go well though the system dropped it
         self.assertEqual(self.file.read_bytes(), text_of("set A1 1"))
@@ -127,7 +127,7 @@ class Failing(Spoilt):
                 with self.file.open("ab") as file:
                     file.write(foreign)
                 _, error = session.communicate(lines("set A1 2"), timeout=LIMIT)
-                self.assertEqual((session.returncode, error), (1, self.opened(0) + DEVICE_FAILED))
+                self.assertEqual((session.returncode, error), (1, self.opened(0) + self.lost()))
         self.assertTrue(self.file.read_bytes().startswith(text_of("set A1 1") + foreign))
         self.assertEqual(self.run_kept(b"rows A1:B1\n").status, 0)
 

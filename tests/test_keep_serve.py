@@ -206,7 +206,7 @@ class Failing(Spoilt):
                         self.assertEqual(other.ask(f"set A1 {number}"), f"ok {number}")
                     self.fail("no sync has failed")
                 self.assertEqual(silent.told(), b"")
-                self.assertEqual(server.ended(), Ended(1, b"", self.opened(0) + DEVICE_FAILED))
+                self.assertEqual(server.ended(), Ended(1, b"", self.opened(0) + self.lost()))
 
     def test_a_sync_that_fails_ends_it_and_what_was_answered_is_kept(self):
         for first in (4, 5, 9):
@@ -225,7 +225,7 @@ class Failing(Spoilt):
                         for other in (server.client(), server.client()):
                             other.leave()
                     ended = server.ended()
-                    self.assertEqual((ended.status, ended.error), (1, self.opened(0) + DEVICE_FAILED))
+                    self.assertEqual((ended.status, ended.error), (1, self.opened(0) + self.lost()))
                 content = self.file.read_bytes()
                 edits = [f"set A1 {number}" for number in range(answered + 1)]
                 self.assertTrue(text_of(*edits).startswith(content))
@@ -248,8 +248,9 @@ class Failing(Spoilt):
             with self.subTest(span=span):
                 self.file = file
                 content, count, told = file.read_text().split("\n"), self.count_in_file(), self.opened(0)
-                closed, failed = Ended(0, lines(f"closed {count}"), told), Ended(1, b"", told + DEVICE_FAILED)
-                self.assertIn(short.ended, (closed, failed, Ended(3, b"", told + lines("err 19 memory"))))
+                closed, memory = Ended(0, lines(f"closed {count}"), told), Ended(3, b"", told + lines("err 19 memory"))
+                failed = [Ended(1, b"", told + fault) for fault in (DEVICE_FAILED, self.lost())]
+                self.assertIn(short.ended, (closed, memory, *failed))
                 ends.add(short.ended.status)
                 for script, replies in zip(scripts, short.replies):
                     for line, reply in zip(script, replies.decode().split("\n")):

@@ -34,12 +34,18 @@ abbrev pub TellsTrouble : KeptTrouble → ProgramFault → Type 0
 TellsTrouble trouble fault =
     (fault ≡ Refused Memory) ⊎ ((kept : FileNotTaken) × (kept.trouble ≡ trouble) × (fault ≡ KeptFailed kept))
 
+-- the fault reports a file that keeps its sheet no longer, or just that the device failed
+abbrev pub TellsLoss : ProgramFault → Type 0
+TellsLoss fault =
+    (fault ≡ Refused Device) ⊎ ((kept : FileNotTaken) × (kept.trouble ≡ troubles.Lost) × (fault ≡ KeptFailed kept))
+
 -- why a start of this replica refuses the bytes of a file: the first line that may not stand there, or the replica
 -- whose sheet it is
 abbrev pub IsTroubleOf : ℕ → List ℕ → KeptTrouble → Type 0
 IsTroubleOf replica bytes (troubles.Line number) = IsFaultOf replica bytes (keeps.Line number)
 IsTroubleOf replica bytes (troubles.Replica other) = IsFaultOf replica bytes (keeps.Replica other)
 IsTroubleOf replica bytes troubles.Busy = ⊥
+IsTroubleOf replica bytes troubles.Lost = ⊥
 
 -- why a start of this replica is refused with these bytes in its file: the bytes, out of memory, or a device that
 -- failed

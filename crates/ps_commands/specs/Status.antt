@@ -11,9 +11,10 @@ use Rattle.ps_commands.specs.declared.kept.KeptTrouble.{KeptTrouble}
 use Rattle.ps_commands.specs.declared.kept.KeptTrouble.TheVariants as troubles
 use Rattle.ps_commands.specs.declared.port.PortFault.{PortFault}
 
--- 1 if another program has the file, 3 if it doesn't have lines of the replica's sheet
+-- 1 if another program has the file or it keeps the sheet no longer, 3 if it doesn't have lines of the replica's sheet
 abbrev pub kept_status : KeptTrouble → ℕ
 kept_status troubles.Busy = 1
+kept_status troubles.Lost = 1
 kept_status _ = 3
 
 -- 1 where a device failed, 3 at any other refusal

@@ -1,7 +1,7 @@
 //! The file that a sheet is kept in, and why it isn't taken.
 ghost use Rattle.std.specs.Prelude.{◌≡◌, ◌⊎◌, ℕ, List, IfErr, IfOk};
 ghost use Rattle.ps_kept.specs.Starts.{Reads};
-ghost use Rattle.ps_commands.specs.Kept.{IsFileRefusal, IsKeptSheet, TellsTrouble};
+ghost use Rattle.ps_commands.specs.Kept.{IsFileRefusal, IsKeptSheet, TellsLoss, TellsTrouble};
 ghost use Rattle.ps_commands.specs.Status.{kept_status};
 ghost use Rattle.ps_commands.specs.declared.fault.ProgramFault.TheVariants.{Refused};
 
@@ -21,7 +21,7 @@ use std::rt::Files;
 use std::sync::ledger::Ledger;
 use std::thread::Threads;
 
-/// Why a file isn't taken to keep a sheet in.
+/// Why a file isn't taken to keep a sheet in, or why it keeps one no longer.
 #[derive(Clone, Copy, Debug, PartialEq, Eq)]
 pub enum KeptTrouble {
     /// The line of this number, 1 or more, is none that may stand there.
@@ -30,27 +30,29 @@ pub enum KeptTrouble {
     Replica(u8),
     /// Another program keeps it.
     Busy,
+    /// While it kept a sheet it couldn't be written, or it was removed, replaced or cut.
+    Lost,
 }
 
-/// A file that is refused for a sheet, and why. Its text is two lines, without the last line feed: the refusal, and the
-/// trouble of the file.
+/// A file that is refused for a sheet, or keeps it no longer, and why. Its text is two lines, without the last line
+/// feed: the refusal, and the trouble of the file.
 #[derive(Debug, Drop)]
 pub struct FileNotTaken {
     /// The path of the file, as it was given.
     pub path: String,
-    /// Why it isn't taken.
+    /// What is wrong with it.
     pub trouble: KeptTrouble,
 }
 
 impl FileNotTaken {
-    /// The exit status: 1 where another program keeps the file, else 3.
+    /// The exit status: 1 where another program keeps the file or it keeps the sheet no longer, else 3.
     ///
     /// Cost: constant.
     pub fn status(&self) -> u8
         ensures { result ≡ kept_status self.now.trouble }
     {
         match self.trouble {
-            KeptTrouble::Busy => 1,
+            KeptTrouble::Busy | KeptTrouble::Lost => 1,
             KeptTrouble::Line(_) | KeptTrouble::Replica(_) => 3,
         }
     }
@@ -72,6 +74,13 @@ impl fmt::Display for FileNotTaken {
                 let refusal = Refusal::Device;
                 write!(f, "{refusal}\n{path} is kept by another program")
             }
+            KeptTrouble::Lost => {
+                let refusal = Refusal::Device;
+                write!(
+                    f,
+                    "{refusal}\n{path} isn't kept any more: it can't be written, or it was removed, replaced or cut"
+                )
+            }
         }
     }
 }
@@ -83,6 +92,19 @@ pub(crate) fn not_taken(alloc: Global, path: &str, trouble: KeptTrouble) -> Prog
     match path.to_string(alloc) {
         Ok(path) => ProgramFault::KeptFailed(FileNotTaken { path, trouble }),
         Err(AllocError) => ProgramFault::Refused(Refusal::Memory),
+    }
+}
+
+/// Returns the fault of a file that keeps a sheet no longer. Out of memory it is that of the device alone.
+///
+/// Cost: linear in the path.
+pub fn lost_file(alloc: Global, path: &str) -> ProgramFault
+    ensures { TellsLoss result }
+{
+    let trouble = KeptTrouble::Lost;
+    match path.to_string(alloc) {
+        Ok(path) => ProgramFault::KeptFailed(FileNotTaken { path, trouble }),
+        Err(AllocError) => ProgramFault::Refused(Refusal::Device),
     }
 }
 

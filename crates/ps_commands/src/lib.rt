@@ -47,7 +47,7 @@ pub use elsewhere::{Crowded, KeptOnlooker, NumberElsewhere, Warner, tell_opened}
 pub use explain::Onlooker;
 pub use fault::{ProgramFault, status_of};
 pub use follow::follow_on;
-pub use kept::{FileNotTaken, KeptTrouble, OpenedFile, keep_sheet, open_kept_sheet};
+pub use kept::{FileNotTaken, KeptTrouble, OpenedFile, keep_sheet, lost_file, open_kept_sheet};
 pub use listening::{serve, serve_kept};
 pub use port::{PageAddress, PortFault, PortTrouble, port_fault};
 pub use run::{answer_kept, answer_lines, open_sheet};

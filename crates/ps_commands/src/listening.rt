@@ -13,12 +13,13 @@ ghost use Rattle.ps_commands.specs.declared.fault.ProgramFault.TheVariants.{Refu
 
 use crate::elsewhere::{Warner, tell_opened};
 use crate::fault::ProgramFault;
-use crate::kept::open_kept_sheet;
+use crate::kept::{lost_file, open_kept_sheet};
 use crate::notice::{tell, tell_line};
 use crate::port::{PageAddress, listen};
 use crate::run::open_sheet;
 use ps_device::Sink;
 use ps_eval::Meter;
+use ps_grid::Refusal;
 use ps_keep::{Journal, KeptFile};
 use ps_server::{Closed, ServerOptions, serve_kept_on, serve_on};
 use ps_session::Resources;
@@ -160,7 +161,8 @@ pub fn serve<
 /// `path` is what `options.keep` has. It is a parameter of its own, so that no call can be made of options without a
 /// file.
 ///
-/// A port that can't be listened on, and a file that is refused, are faults of their own. Then nothing was written.
+/// A port that can't be listened on, and a file that is refused, are faults of their own. Then nothing was written. If
+/// the device fails later, the fault names the file ([`lost_file`]).
 ///
 /// Cost: that of [`open_kept_sheet`] and of [`serve_kept_on`].
 pub fn serve_kept<
@@ -206,7 +208,11 @@ pub fn serve_kept<
     let mut warner = tell_opened(resources.alloc, path, &sheet, told);
     let journal = keeper.into_journal();
     let asked = server_options(&listener, options);
-    let closed = serve_kept_on(resources, asked, sheet, journal, &mut warner)?;
+    let closed = match serve_kept_on(resources, asked, sheet, journal, &mut warner) {
+        Ok(closed) => closed,
+        Err(Refusal::Device) => return Err(lost_file(resources.alloc, path)),
+        Err(refusal) => return Err(ProgramFault::Refused(refusal)),
+    };
     match tell_closed(&closed.sheet, out) {
         Ok(()) => Ok(closed),
         Err(fault) => Err(fault),

@@ -33,7 +33,7 @@ pub trait Device {
         ensures failed { has_failed self.new ≡ is_err result }
         ensures cut { (is_cut self.new ≡ is_cut self.old) × (cut_failed self.new ≡ cut_failed self.old) };
 
-    /// Has all bytes on the disk.
+    /// Has all bytes on the disk. It may fail though they are, if the next start wouldn't find them.
     ///
     /// Cost: the time that the device takes.
     fn sync(&mut self) -> Result<(), Failed>
@@ -68,8 +68,6 @@ pub trait Found {
     ghost bytes: { Self → List ℕ };
 
     /// All its bytes.
-    ///
-    /// Cost: constant.
     fn bytes(&self) -> &[u8]
         ensures { result.now ≡ bytes self.now };
 

@@ -7,6 +7,7 @@ use ps_device::Failed;
 use std::alloc::Global;
 use std::fs::{File, OpenOptions, TryLockError};
 use std::io::{ErrorKind, Read, Write};
+use std::os::unix::fs::MetadataExt;
 use std::path::{AsPath, Path};
 use std::rt::Files;
 
@@ -31,7 +32,8 @@ pub struct FoundFile {
 
 impl FoundFile {
     /// Opens the file of this path, or makes it, locks it, has its name on the disk and reads it. Refused as `Busy`
-    /// where another process has it locked, and as `Device` where it is no regular file; such a file isn't read.
+    /// where another process has it locked, and as `Device` where it is no regular file or has lost its name meanwhile;
+    /// such a file isn't read.
     ///
     /// Cost: linear in the file, and its memory; one sync of the folder.
     pub fn open<R: Files<File = File>>(
@@ -47,7 +49,7 @@ impl FoundFile {
         }
         match file.metadata() {
             // (a device may have bytes without end)
-            Ok(about) if about.is_file() => {}
+            Ok(about) if about.is_file() && about.nlink() > 0 => {}
             _ => return Err(FileFault::Device),
         }
         sync_folder(rt, path)?;
@@ -141,6 +143,9 @@ impl Found for FoundFile {
 
 /// A file that is appended to. Its clauses say what the system's calls returned; that the system does what it returns
 /// is trusted.
+///
+/// A sync also fails if the file was removed, replaced or cut, or another program wrote to it: then the next start may
+/// not find what was synced. A file of another length isn't cut afterwards.
 #[derive(Drop)]
 pub struct KeptFile {
     file: File,
@@ -154,6 +159,19 @@ pub struct KeptFile {
     cut_failed: bool,
     ghost within: { (synced ≡ trace.given.synced) × (synced ≤ end) },
     ghost whole: { end ≡ length trace.given.written },
+}
+
+impl KeptFile {
+    /// Returns whether the open file has a name and the length that was written.
+    ///
+    /// It doesn't see that the file has another name now; then that file has all bytes. It doesn't see a change that
+    /// comes later, or that leaves the length as it was.
+    fn is_in_place(&self) -> bool {
+        match self.file.metadata() {
+            Ok(about) => about.nlink() > 0 && about.len() == self.end,
+            Err(_) => false,
+        }
+    }
 }
 
 impl Device for KeptFile {
@@ -196,12 +214,12 @@ impl Device for KeptFile {
 
     fn sync(&mut self) -> Result<(), Failed> {
         match self.file.sync_data() {
-            Ok(()) => {
+            Ok(()) if self.is_in_place() => {
                 self.trace.note(&[1], &[]);
                 self.synced = self.end;
                 Ok(())
             }
-            Err(_) => {
+            _ => {
                 self.is_broken = true;
                 Err(Failed)
             }

@@ -106,6 +106,13 @@ impl<D: Device + Drop> Journal<D> {
         Ok(())
     }
 
+    /// Returns whether a sync has failed.
+    pub fn is_stopped(&self) -> bool
+        ensures { result ≡ self.now.has_failed }
+    {
+        self.is_stopped
+    }
+
     /// Syncs all lines that were noted, and acknowledges them. If none was noted since the last sync, it doesn't call
     /// the device.
     ///

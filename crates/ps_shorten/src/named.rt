@@ -20,8 +20,6 @@ pub trait Replace {
     ghost content: { Self → List ℕ };
 
     /// The bytes that a start finds under the file's name.
-    ///
-    /// Cost: constant.
     fn bytes(&self) -> &[u8]
         ensures { result.now ≡ content self.now };
 
@@ -61,8 +59,6 @@ pub struct NamedFile<'a, R: Files<File = File>, F: Found + Drop> {
 
 impl<'a, R: Files<File = File>, F: Found + Drop> NamedFile<'a, R, F> {
     /// The file of this path, as it was found.
-    ///
-    /// Cost: constant.
     pub fn new(rt: &'a R, alloc: Global, path: &'a str, found: F) -> NamedFile<'a, R, F>
         ensures { ⟦<NamedFile<'a, R, F> as Replace>⟧.content result ≡ F.bytes found }
     {

@@ -32,8 +32,8 @@ use clap::Error;
 use clap::error::ErrorKind;
 use ps_commands::{
     KeptOnlooker, Onlooker, ProgramFault, answer_kept, answer_lines, follow_on, leave_unfreed,
-    open_kept_sheet, port_fault, serve, serve_kept, squash_kept, squash_on, status_of, sync_on,
-    table_on, talk_on, tell_opened,
+    lost_file, open_kept_sheet, port_fault, serve, serve_kept, squash_kept, squash_on, status_of,
+    sync_on, table_on, talk_on, tell_opened,
 };
 use ps_device::{ConsoleOutput, Reading, Sink, Writing};
 use ps_eval::Meter;
@@ -315,7 +315,7 @@ fn run_kept<R: Files<File = File> + Threads + Sync, I: Ledger, O: Ledger, H: Led
     let mut sink = HeldOutput::<_, H>::new(rt.alloc(), writing, counts.held);
     let told = is_explained(rt, options.explain).then_some(rt.stderr());
     let mut onlooker = KeptOnlooker::new(Onlooker::new(rt.alloc(), told), warner);
-    answer_kept(
+    let done = answer_kept(
         resources,
         &mut source,
         &mut sink,
@@ -323,8 +323,13 @@ fn run_kept<R: Files<File = File> + Threads + Sync, I: Ledger, O: Ledger, H: Led
         &mut keeper,
         &mut meter,
         &mut onlooker,
-    )?;
-    onlooker.end(options.strict)
+    );
+    let is_lost = keeper.into_journal().is_stopped();
+    match done {
+        Ok(()) => onlooker.end(options.strict),
+        Err(_) if is_lost => Err(lost_file(rt.alloc(), path)),
+        Err(fault) => Err(fault),
+    }
 }
 
 /// Serves sessions over TCP on an empty sheet, or on the one that a file keeps, and tells on standard error what was
