@@ -30,7 +30,7 @@ class Statuses(ProgramTest):
 
     def test_2_without_a_command(self):
         said = ("error: 'sheet' requires a subcommand but one was not provided\n"
-                "  [subcommands: run, table, serve, sync, follow, talk, squash, help]")
+                "  [subcommands: run, table, serve, sync, join, follow, talk, squash, help]")
         self.assert_no_command_line([], said, USAGE)
 
     def test_2_for_an_unknown_command(self):

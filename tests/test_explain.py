@@ -162,8 +162,8 @@ def words_with_port(port):
     """The words of each command that is to listen on this port, and of each that is to connect to it."""
     return (
         (["serve", "--port", port],),
-        (["sync", "--from", port, "--to", port], ["follow", "--from", port], ["follow", "--from", port, "--until-now"],
-         ["talk", "--to", port]),
+        (["sync", "--from", port, "--to", port], ["join", "--from", port, "--to", port, "--once"],
+         ["follow", "--from", port], ["follow", "--from", port, "--until-now"], ["talk", "--to", port]),
     )
 
 
@@ -202,11 +202,12 @@ class OfPorts(ProgramTest):
                     self.assertEqual(Ended(ran.returncode, ran.stdout, ran.stderr),
                                      Ended(1, b"", DEVICE_FAILED + lines(told)))
 
-    def test_the_second_port_of_sync(self):
+    def test_the_second_port_of_two(self):
         port = free_port()
         with serving(None) as server:
-            self.assert_told(["sync", "--from", str(server.port), "--to", str(port)],
-                             f"port {port}: nobody listens on it; sheet serve --port {port} would")
+            for command, *more in (["sync"], ["join", "--once"]):
+                self.assert_told([command, "--from", str(server.port), "--to", str(port), *more],
+                                 f"port {port}: nobody listens on it; sheet serve --port {port} would")
 
     def test_a_port_that_can_be_had(self):
         with serving(None, "--explain") as server:

@@ -314,8 +314,8 @@ class Refuses(KeepingTest):
         self.assertEqual(self.file.read_bytes(), content)
 
     def test_other_commands_keep_nothing(self):
-        for words in (("table",), ("sync", "--from", "1", "--to", "2"), ("follow", "--from", "1"),
-                      ("talk", "--to", "1")):
+        for words in (("table",), ("sync", "--from", "1", "--to", "2"), ("join", "--from", "1", "--to", "2"),
+                      ("follow", "--from", "1"), ("talk", "--to", "1")):
             with self.subTest(words=words):
                 self.assertEqual(run(*words, "--keep", str(self.file)).status, 2)
         self.assertEqual(run("run", "--keep").status, 2)

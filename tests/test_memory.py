@@ -8,6 +8,7 @@ import os
 from program import Ended, ProgramTest, lines
 from shortage import ALL, build, each, run_short, serve_short
 from sizes import COLUMNS, LONGEST_LINE, name, pushes
+from test_join import Scripted, join_words
 from test_sync import FakePeer, in_turn
 
 OUT_OF_MEMORY = b"err 19 memory\n"
@@ -286,6 +287,52 @@ class Refused(ProgramTest):
                     self.assertIn(short.ended, (said, FAILED))
                     done = len(deltas) if short.ended == said else len(pushed[span])
                     self.assertEqual(pushed[span], [f"push {delta}" for delta in deltas[:done]])
+
+    def test_a_join(self):
+        delta = '[["A1",[1,1,"1"],[],[]]]'
+        replies = [lines(f"delta 1 {delta}"), b"end 1\n", b"ok 2\n"], [b"same 1\n", lines(f"delta 1 {delta}")]
+        whole = ["pull 0 16", "pull 1 16", f"merge {delta}"], [f"merge {delta}", "pull 0 16", "pull 1 16"]
+        ends = {b"end 1\n": Ended(0, b"joined\n"), b"err 17 version\n": Ended(3, b"", b"err 17 version\n")}
+        for last_reply, said in ends.items():
+            asked = {}
+
+            def start(*span):
+                peers = (FakePeer(in_turn(*replies[0])), FakePeer(in_turn(*replies[1], last_reply)))
+                once = [*join_words(*(peer.port for peer in peers)), "--once"]
+                short = run_short(self.library, once, os.devnull, *span)
+                for peer in peers:
+                    peer.close()
+                asked[span] = tuple(peer.asked for peer in peers)
+                return short
+
+            for span, short in self.each(start):
+                with self.subTest(said=said, span=span):
+                    self.assertIn(short.ended, (said, FAILED))
+                    done = asked[span] if short.ended == FAILED else whole
+                    self.assertEqual(asked[span], tuple(all_of[:len(part)] for all_of, part in zip(whole, done)))
+
+    def test_a_join_that_goes_on(self):
+        """It goes on without memory to tell of an end that it lost, and ends where it has none to connect again."""
+
+        def start(*span, more=()):
+            # (closed again and again, once both are joined)
+            peers = [Scripted(*[[b"end 0\n"]] * 9) for _ in range(2)]
+            ports = [peer.port for peer in peers]
+            short = run_short(self.library, [*join_words(*ports), *more], os.devnull, *span)
+            for peer in peers:
+                peer.close()
+            told = {f"joined {ports[0]} and {ports[1]}", *(f"port {port}: the connection ended" for port in ports)}
+            return short.ended, short.requests, told
+
+        ended, last, _ = start(ALL, ALL, more=["--once"])
+        self.assertEqual(ended, Ended(0, b"joined\n"))
+        spans = [(number, ALL) for number in range(1, last + 1, APART)]
+        for span, (ended, _, told) in zip(spans, each(start, spans)):
+            with self.subTest(span=span):
+                self.assertTrue(ended.error.endswith(OUT_OF_MEMORY), ended)
+                said = ended.error.removesuffix(OUT_OF_MEMORY)
+                self.assertEqual(ended, Ended(3, b"", said + OUT_OF_MEMORY))
+                self.assertLessEqual(set(said.decode().splitlines()), told)
 
     def test_a_follow(self):
         deltas = [f'[["A{row}",[{row},1,"{row}"],[],[]]]' for row in (1, 2)]

@@ -14,6 +14,7 @@ from sizes import COLUMNS, LONGEST_DELTA, name
 
 # What the page has first: the functions that its recipes call.
 FUNCTIONS = functions("docs/USING.md")
+PAGE = (TOP / "docs/USING.md").read_text()
 RECIPES = recipes("docs/USING.md", "bash")
 # How long recipes wait for what goes on beside them, and how long they wait when they are tried again.
 PAUSE, LONGER = "sleep 2 &&\n", "sleep 15 &&\n"
@@ -192,3 +193,47 @@ class Failing(Pasting):
         given = r"printf 'set A1 5\nget A1\npull 0 16\nrows A1:B1\n\nset B1 6' | keep ./sheet run"
         kept = lines('push [["A1",[1,1,"5"],[],[]],["B1",[1,1,"6"],[],[]]]')
         self.assertEqual(self.paste(given), Ended(0, kept))
+
+
+class GoingBack(Pasting):
+    """The way back of `docs/USING.md`, after a line that makes a cell unusable: it has its last time."""
+
+    HOSTILE = """push [["A1",[9007199254740991,7,"'gone"],[],[]]]"""
+
+    def kept(self, file, *given, replica=1):
+        """The replies to these lines of a sheet that is kept in this file, and what was told of the file."""
+        ended = run("run", "--replica", str(replica), "--keep", str(self.place / file), given=lines(*given))
+        self.assertEqual(ended.status, 0, ended)
+        return ended.output.decode().splitlines(), ended.error.decode()
+
+    def test_it_has_the_first_100_changes_and_other_replicas_begin_with_them(self):
+        part = re.search(r"^\*\*To go back\*\*.*?^#", PAGE, re.MULTILINE | re.DOTALL)[0]
+        commands = re.findall(r"^    (.*)$", part, re.MULTILINE)
+        self.assertEqual(len(commands), 2)
+        made = [f"set A{row} {row}" for row in range(1, 100)] + ["set A1 kept"]
+        later = [self.HOSTILE, "set B1 later", "set A2 changed"]
+        self.kept("team.lines", *made, *later)
+        self.assertEqual(self.kept("team.lines", "set A1 kept")[0], ["err 13 clock-full"])
+        before = (self.place / "team.lines").read_bytes()
+        # the first one makes the file of replica 1, and the second one that of replica 2
+        self.assertEqual(self.paste("\n".join(commands)), Ended(0))
+        self.assertEqual((self.place / "team.lines").read_bytes(), before)
+        for replica, file in enumerate(("early.lines", "home.lines"), 1):
+            with self.subTest(file=file):
+                asked = ("rows A1:B3", f"set C{replica} 1", "set A1 again")
+                replies, told = self.kept(file, *asked, replica=replica)
+                self.assertEqual(told, f"opened {self.place / file}, 100 changes\n")
+                self.assertEqual(replies, ["rows 3", "kept,", "2,", "3,", "ok 101", "ok 102"])
+
+    def test_another_replica_would_bring_the_later_changes_back(self):
+        ours, theirs = free_port(), free_port()
+        (self.place / "early.lines").write_text('replica 1\npush [["A1",[1,1,"\'kept"],[],[]]]\n')
+        self.assertEqual(self.kept("theirs.lines", self.HOSTILE, replica=2)[0], ["ok 1"])
+        ended = self.paste(f"""
+            start ours ./sheet serve --port {ours} --sessions 2 --keep early.lines &&
+            start theirs ./sheet serve --port {theirs} --sessions 1 --replica 2 --keep theirs.lines &&
+            ./sheet sync --from {theirs} --to {ours} &&
+            printf 'get A1\\nset A1 kept\\n' | ./sheet talk --to {ours} &&
+            wait
+        """)
+        self.assertEqual(ended, Ended(0, lines("synced 1", "val gone", "err 13 clock-full")))

@@ -21,18 +21,19 @@ sed -n 's/^delta [0-9]* /push /p' $here/one $here/two > $here/lines
 # makes a difference.
 COMMANDS = {
     "run": "each line of standard input", "table": "CSV", "serve": "several sessions",
-    "sync": "one replica has to another", "follow": "lines to push", "talk": "asks a server",
-    "squash": "few push lines",
+    "sync": "one replica has to another", "join": "at the same changes", "follow": "lines to push",
+    "talk": "asks a server", "squash": "few push lines",
 }
-WITHOUT_NUMBER = ("--keep", "--squash", "--explain", "--strict", "--entries", "--until-now", "--title")
-WHY_NO_PORT = dict.fromkeys(("serve", "sync", "follow", "talk"), "why a port")
+WITHOUT_NUMBER = ("--keep", "--squash", "--explain", "--strict", "--entries", "--until-now", "--once", "--title")
+WHY_NO_PORT = dict.fromkeys(("serve", "sync", "join", "follow", "talk"), "why a port")
 OPTIONS = {
     "--workers": "threads", "--replica": "of this replica", "--strict": "status 3", "--squash": "half as long",
     "--keep": {"run": "kept in", "serve": "kept in", "squash": "in its place"},
     "--entries": "entries", "--port": "listen", "--sessions": "before it ends", "--seats": "to serve at a time",
     "--wait": "wait for a seat", "--idle": "sends nothing", "--until-now": "ends once", "--every": "milliseconds",
-    "--title": "title of the page", "--to": {"sync": "takes them in", "talk": "is asked"},
-    "--from": {"sync": "are pulled", "follow": "is followed"},
+    "--title": "title of the page", "--once": "all that the other one had",
+    "--to": {"sync": "takes them in", "join": "the other replica", "talk": "is asked"},
+    "--from": {"sync": "are pulled", "join": "go to the other one first", "follow": "is followed"},
     "--explain": {"run": "with a hint", "table": "with a hint", **WHY_NO_PORT},
 }
 TABLE_EXAMPLE = r"""printf '2,=[.A1]*3\n"x,y",@tally\n' | ./sheet table"""

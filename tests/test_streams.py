@@ -74,12 +74,14 @@ class Closed(ProgramTest):
                 if kept:
                     self.assertEqual(file.read_bytes(), b"replica 1\n" + (b"" if 1 in closed else PUSHED))
 
-    def test_sync_follow_and_talk(self):
+    def test_sync_join_follow_and_talk(self):
         with serving(None) as first, serving(None, "--replica", "2") as second:
             self.assertEqual(first.client().ask("set A1 5"), "ok 1")
             there = str(first.port)
             for closed in self.each():
                 self.assert_ends(closed, "sync", "--from", there, "--to", str(second.port), given=b"", written=b"synced 1\n")
+                self.assert_ends(closed, "join", "--from", there, "--to", str(second.port), "--once", given=b"",
+                                 written=b"joined\n")
                 self.assert_ends(closed, "follow", "--from", there, "--until-now", given=b"", written=PUSHED)
                 self.assert_ends(closed, "talk", "--to", there, given=b"get A1\n", written=b"val 5\n")
 

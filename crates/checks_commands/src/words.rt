@@ -15,7 +15,7 @@ fn words(alloc: Global, line: &str) -> Result<Vec<String>, AllocError> {
 
 /// Returns two numbers of a command, or the exit status that `clap` gives.
 ///
-/// They are two numbers of `run`, `sync` or `serve`, one of `table` or `talk` and 0, or the port and the pause of
+/// They are two numbers of `run`, `sync`, `join` or `serve`, one of `table` or `talk` and 0, or the port and the pause of
 /// `follow`. The pause is 0 here without `--until-now`.
 fn numbers(alloc: Global, line: &str) -> Result<Result<(u16, u16), i32>, AllocError> {
     let words = words(alloc, line)?;
@@ -27,6 +27,7 @@ fn numbers(alloc: Global, line: &str) -> Result<Result<(u16, u16), i32>, AllocEr
         Ok(Options::Table(options)) => Ok((u16::from(options.workers), 0)),
         Ok(Options::Serve(options)) => Ok((u16::from(options.seats), u16::from(options.wait))),
         Ok(Options::Sync(options)) => Ok((options.from, options.to)),
+        Ok(Options::Join(options)) => Ok((options.from, options.to)),
         Ok(Options::Follow(options)) if options.until_now => Ok((options.from, options.every)),
         Ok(Options::Follow(options)) => Ok((options.from, 0)),
         Ok(Options::Talk(options)) => Ok((options.to, 0)),
@@ -46,6 +47,8 @@ fn options_are_read(rt: HostRuntime) -> Result<(), Fail> {
         ("sheet serve --port 1 --seats 256", (256, 5)),
         ("sheet serve --seats=2 --port 1 --wait 0", (2, 0)),
         ("sheet sync --to=65535 --from 1", (1, 65535)),
+        ("sheet join --to=65535 --from 1", (1, 65535)),
+        ("sheet join --from=7001 --once --to=7002", (7001, 7002)),
         ("sheet squash", (0, 0)),
         ("sheet talk --to=7001", (7001, 0)),
         ("sheet follow --from 7001", (7001, 0)),
@@ -60,7 +63,7 @@ fn options_are_read(rt: HostRuntime) -> Result<(), Fail> {
     Ok(())
 }
 
-/// Which flags of a command are set: to explain, to be strict, and for entries.
+/// Which flags of a command are set: to explain, to be strict or to end at once, and for entries.
 fn flags(alloc: Global, line: &str) -> Result<[bool; 3], AllocError> {
     let words = words(alloc, line)?;
     Ok(match read_words(alloc, words.as_slice()) {
@@ -68,6 +71,7 @@ fn flags(alloc: Global, line: &str) -> Result<[bool; 3], AllocError> {
         Ok(Options::Table(options)) => [options.explain, false, options.entries],
         Ok(Options::Serve(options)) => [options.explain, false, false],
         Ok(Options::Sync(options)) => [options.explain, false, false],
+        Ok(Options::Join(options)) => [options.explain, options.once, false],
         Ok(Options::Follow(options)) => [options.explain, false, false],
         Ok(Options::Talk(options)) => [options.explain, false, false],
         _ => [true, true, true],
@@ -88,6 +92,9 @@ fn flags_are_read(rt: HostRuntime) -> Result<(), Fail> {
         ("sheet serve --port 1 --explain", [true, false, false]),
         ("sheet sync --from 1 --to 2", [false, false, false]),
         ("sheet sync --explain --from 1 --to 2", [true, false, false]),
+        ("sheet join --from 1 --to 2", [false, false, false]),
+        ("sheet join --explain --from 1 --to 2", [true, false, false]),
+        ("sheet join --from 1 --to 2 --once", [false, true, false]),
         ("sheet follow --from 1 --until-now", [false, false, false]),
         ("sheet follow --from 1 --explain", [true, false, false]),
         ("sheet talk --to 1", [false, false, false]),
@@ -187,6 +194,12 @@ sheet serve --port=1 --idle=86401
 sheet sync --from 1
 sheet sync --from=0 --to=1
 sheet sync --from=1 --to=65536
+sheet join --from 1
+sheet join --to 1
+sheet join --from=0 --to=1
+sheet join --from=1 --to=65536
+sheet join --from=1 --to=2 --once=yes
+sheet join --from=1 --to=2 --until-now
 sheet follow --until-now
 sheet follow --from=0
 sheet follow --from=1 --every=0

@@ -1,5 +1,5 @@
 -- What the commands begin with, and what they write.
-use Rattle.std.specs.Prelude.{◌≡◌, ◌==◌, ◌∷◌, ◌++◌, ℕ, Bool, List, [], Option, if◌then◌else◌, codes, decimal}
+use Rattle.std.specs.Prelude.{◌≡◌, ◌==◌, ◌∷◌, ◌++◌, ℕ, Bool, false, List, [], Option, if◌then◌else◌, codes, decimal}
 use Rattle.ps_grid.specs.Rectangle.{Area}
 use Rattle.ps_delta.specs.Deltas.{joined_history}
 use Rattle.ps_shown.specs.Shown.{shown_at}
@@ -7,6 +7,11 @@ use Rattle.ps_sheet.specs.Sheet.{IsSheet, SheetView}
 use Rattle.ps_csv.specs.Exports.{exported, exported_entries, held_in}
 use Rattle.ps_csv.specs.Faults.{ReaderFails, TableFault, WholeTable}
 use Rattle.ps_csv.specs.Imports.{ImportsTable}
+use Rattle.ps_join.specs.Joins.{IsJoined, IsStopped}
+use Rattle.ps_join.specs.declared.fault.End.{End}
+use Rattle.ps_peers.specs.Peers.{PeerView}
+use Rattle.ps_peers.specs.declared.peer_pull.SyncFault.{SyncFault}
+use Rattle.ps_commands.specs.Status.{sync_fault}
 use Rattle.ps_commands.specs.declared.fault.ProgramFault.{ProgramFault}
 use Rattle.ps_commands.specs.declared.fault.ProgramFault.TheVariants.{ReaderFailed, Refused}
 
@@ -56,6 +61,25 @@ notice word number = word ++ decimal number ++ 10 ∷ []
 -- what `sync` writes at the end: how many lines it pushed
 abbrev pub synced_text : ℕ → List ℕ
 synced_text lines = notice (codes "synced ") lines
+
+-- all that each of two peers had was merged at the other
+abbrev pub AreJoined : Type 0
+AreJoined = (from0 : PeerView) × (from1 : PeerView) × (to0 : PeerView) × (to1 : PeerView) × IsJoined from0 from1 to0 to1
+
+-- two peers were joining, until one of them ended it with this fault
+pub record IsJoinFault (fault : ProgramFault) : Type 0 where
+  pub end : End
+  pub cause : SyncFault
+  pub from0 : PeerView
+  pub from1 : PeerView
+  pub to0 : PeerView
+  pub to1 : PeerView
+  pub is : fault ≡ sync_fault cause
+  pub stopped : IsStopped false end from0 from1 to0 to1
+
+-- what `join` with `--once` writes at the end
+abbrev pub joined_text : List ℕ
+joined_text = codes "joined" ++ 10 ∷ []
 
 -- what `serve` writes once it listens on a port ..
 abbrev pub listening_text : ℕ → List ℕ

@@ -2,11 +2,13 @@
 use Rattle.std.specs.Prelude.{◌≡◌, ◌⊎◌, ℕ, Option, Some, None}
 use Rattle.csv.specs.declared.error.Error.{Error}
 use Rattle.ps_grid.specs.declared.refusal.Refusal.{Refusal}
-use Rattle.ps_grid.specs.declared.refusal.Refusal.TheVariants.{Device, Memory, Seat}
+use Rattle.ps_grid.specs.declared.refusal.Refusal.TheVariants.{Device, Line, Memory, Seat}
+use Rattle.ps_peers.specs.declared.peer_pull.SyncFault.{SyncFault}
+use Rattle.ps_peers.specs.declared.peer_pull.SyncFault.TheVariants as syncs
 use Rattle.ps_session.specs.declared.transcript.RunFault.{RunFault}
 use Rattle.ps_session.specs.declared.transcript.RunFault.TheVariants as sessions
 use Rattle.ps_commands.specs.declared.fault.ProgramFault.{ProgramFault}
-use Rattle.ps_commands.specs.declared.fault.ProgramFault.TheVariants.{KeptFailed, PortFailed, ReaderFailed, Refused}
+use Rattle.ps_commands.specs.declared.fault.ProgramFault.TheVariants.{KeptFailed, PeerRefused, PortFailed, ReaderFailed, Refused}
 use Rattle.ps_commands.specs.declared.kept.KeptTrouble.{KeptTrouble}
 use Rattle.ps_commands.specs.declared.kept.KeptTrouble.TheVariants as troubles
 use Rattle.ps_commands.specs.declared.port.PortFault.{PortFault}
@@ -33,6 +35,12 @@ program_fault (Some error) refusal = ReaderFailed error
 abbrev pub session_fault : RunFault → ProgramFault
 session_fault sessions.Memory = Refused Memory
 session_fault _ = Refused Device
+
+-- the fault of an exchange between replicas: a peer that closes gives no reply that is due
+abbrev pub sync_fault : SyncFault → ProgramFault
+sync_fault (syncs.Refused refusal) = Refused refusal
+sync_fault (syncs.PeerRefused reply) = PeerRefused reply
+sync_fault syncs.Closed = Refused Line
 
 -- what ends a server early: no memory, no seat, or a device that failed
 abbrev pub IsServerFault : ProgramFault → Type 0

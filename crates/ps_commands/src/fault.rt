@@ -1,14 +1,15 @@
 //! How the program ends before its work is done.
 ghost use Rattle.std.specs.Prelude.{◌≡◌};
 ghost use Rattle.ps_grid.specs.declared.refusal.Refusal.TheVariants.{Device, Memory};
-ghost use Rattle.ps_commands.specs.Status.{exit_status, program_fault, session_fault};
-ghost use Rattle.ps_commands.specs.declared.fault.ProgramFault.TheVariants.{Refused};
+ghost use Rattle.ps_commands.specs.Status.{exit_status, program_fault, session_fault, sync_fault};
+ghost use Rattle.ps_commands.specs.declared.fault.ProgramFault.TheVariants.{PortFailed, Refused};
 
 use crate::kept::FileNotTaken;
 use crate::port::PortFault;
 use ps_csv::ImportFault;
 use ps_device::Failed;
 use ps_grid::Refusal;
+use ps_join::JoinFault;
 use ps_peers::SyncFault;
 use ps_session::RunFault;
 use std::alloc::AllocError;
@@ -83,13 +84,32 @@ impl From<Failed> for ProgramFault {
     }
 }
 
+impl From<PortFault> for ProgramFault {
+    ghost from_gives = { λ port fault. fault ≡ PortFailed port };
+
+    fn from(port: PortFault) -> ProgramFault {
+        ProgramFault::PortFailed(port)
+    }
+}
+
 impl From<SyncFault> for ProgramFault {
+    ghost from_gives = { λ fault e. e ≡ sync_fault fault };
+
     fn from(fault: SyncFault) -> ProgramFault {
         match fault {
             SyncFault::Refused(refusal) => ProgramFault::Refused(refusal),
             SyncFault::PeerRefused(reply) => ProgramFault::PeerRefused(reply),
             SyncFault::Closed => ProgramFault::Refused(Refusal::Line),
         }
+    }
+}
+
+impl From<JoinFault> for ProgramFault {
+    ghost from_gives = { λ fault e. e ≡ sync_fault fault.fault };
+
+    fn from(fault: JoinFault) -> ProgramFault {
+        let JoinFault { fault, .. } = fault;
+        ProgramFault::from(fault)
     }
 }
 
@@ -107,8 +127,6 @@ impl From<RunFault> for ProgramFault {
 }
 
 /// The fault that an import ends the program with.
-///
-/// Cost: constant.
 pub fn fault_of_import(fault: ImportFault) -> ProgramFault
     ensures { result ≡ program_fault fault.reader_error fault.refusal }
 {
@@ -119,8 +137,6 @@ pub fn fault_of_import(fault: ImportFault) -> ProgramFault
 }
 
 /// The exit status: 1 where a device failed, or a file is kept by another program, else 3.
-///
-/// Cost: constant.
 pub fn status_of(fault: &ProgramFault) -> u8
     ensures { result ≡ exit_status fault.now }
 {

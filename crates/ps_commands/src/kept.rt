@@ -46,8 +46,6 @@ pub struct FileNotTaken {
 
 impl FileNotTaken {
     /// The exit status: 1 where another program keeps the file or it keeps the sheet no longer, else 3.
-    ///
-    /// Cost: constant.
     pub fn status(&self) -> u8
         ensures { result ≡ kept_status self.now.trouble }
     {

@@ -1,5 +1,5 @@
-//! The commands of the program `sheet`, over any source and sink: sessions, tables, `serve`, `sync`, `follow`, `talk`,
-//! `squash`, and how each ends.
+//! The commands of the program `sheet`, over any source and sink: sessions, tables, `serve`, `sync`, `join`, `follow`,
+//! `talk`, `squash`, and how each ends.
 //!
 //! It is not the program: the caller passes sources, sinks and options. Nothing is stored from one call to the next,
 //! except in the file of a durable sheet.
@@ -12,6 +12,7 @@
 //! - [`serve`]: the closed sheet is an empty one with what its sessions appended, as `ps_server` defines it.
 //! - [`serve_kept`]: at its end the journal has all of the sheet.
 //! - [`sync_on`], [`follow_on`] and [`talk_on`]: as `sync`, `follow` and `ask_lines` of `ps_peers`, at ports.
+//! - [`join_once_on`] and [`join_on`]: as `join_once` and `join` of `ps_join`, at ports.
 //! - [`squash_on`]: what was written is what `ps_squash` defines for the lines.
 //!
 //! A [`ProgramFault`] is what ends the program early, and [`status_of`] returns its exit status. It is 1 if a device
@@ -28,14 +29,18 @@
 #![tactic(auto)]
 
 mod elsewhere;
+mod ends;
 mod explain;
 mod fault;
 mod follow;
+mod join;
 mod kept;
 mod listening;
+mod lookout;
 mod notice;
 mod peers;
 mod port;
+mod progress;
 mod run;
 mod squash;
 mod sync;
@@ -47,6 +52,7 @@ pub use elsewhere::{Crowded, KeptOnlooker, NumberElsewhere, Warner, tell_opened}
 pub use explain::Onlooker;
 pub use fault::{ProgramFault, status_of};
 pub use follow::follow_on;
+pub use join::{join_on, join_once_on};
 pub use kept::{FileNotTaken, KeptTrouble, OpenedFile, keep_sheet, lost_file, open_kept_sheet};
 pub use listening::{serve, serve_kept};
 pub use port::{PageAddress, PortFault, PortTrouble, port_fault};

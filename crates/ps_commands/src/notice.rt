@@ -23,6 +23,19 @@ pub(crate) fn tell<K: Sink>(word: &[u8], number: u64, out: &mut K) -> Result<(),
     tell_between(word, number, b"\n", out)
 }
 
+/// Writes a whole line, and flushes the sink. Fails as `Device` if the sink fails.
+pub(crate) fn tell_whole<K: Sink>(line: &[u8], out: &mut K) -> Result<(), ProgramFault>
+    ensures told { OnOk result (Appends (K.contents out.old) (K.contents out.new) line.now) }
+    ensures flushed { OnOk result (K.waiting out.new ≡ []) }
+    ensures calm { OnOk result (K.failures out.new ≡ K.failures out.old) }
+    ensures failed { OnErr result (K.failures out.old < K.failures out.new) }
+    ensures refused { IfErr result (λ f. f ≡ Refused Device) }
+{
+    put_all(out, line)?;
+    hand_on(out)?;
+    Ok(())
+}
+
 /// Writes a number between two texts, and flushes the sink. Fails as `Device` if the sink fails.
 pub(crate) fn tell_between<K: Sink>(
     first: &[u8],

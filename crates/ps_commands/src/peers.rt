@@ -1,6 +1,8 @@
 //! The peer at the other end of a connection.
-ghost use Rattle.std.specs.Prelude.{◌≡◌};
+ghost use Rattle.std.specs.Prelude.{◌≡◌, IfErr};
 ghost use Rattle.ps_grid.specs.Blanks.{IsBlankOf};
+ghost use Rattle.ps_grid.specs.declared.refusal.Refusal.TheVariants.{Memory};
+ghost use Rattle.ps_commands.specs.declared.fault.ProgramFault.TheVariants.{Refused};
 
 use crate::fault::ProgramFault;
 use ps_device::{ConsoleOutput, Reading};
@@ -40,6 +42,7 @@ pub(crate) fn peer_of<I: Ledger, O: Ledger>(
 ) -> Result<Peer<Reading<&TcpStream, I>, ConsoleOutput<&TcpStream, O>>, ProgramFault>
     requires input { IsBlankOf stream.input I.name I.parts }
     requires output { IsBlankOf stream.output O.name O.parts }
+    ensures memory { IfErr result (λ f. f ≡ Refused Memory) }
 {
     let PeerStream {
         stream,

@@ -1,5 +1,5 @@
 //! Ports of this machine, and why one can't be used.
-ghost use Rattle.std.specs.Prelude.{◌≡◌, IfErr};
+ghost use Rattle.std.specs.Prelude.{◌≡◌, IfErr, IfOk};
 ghost use Rattle.ps_commands.specs.Status.{HasNoPort, port_fault_of};
 
 use crate::fault::ProgramFault;
@@ -79,6 +79,15 @@ pub fn port_fault(fault: &ProgramFault) -> Option<PortFault>
     }
 }
 
+/// An open connection to a port of this machine.
+#[derive(Drop)]
+pub(crate) struct Connection {
+    /// the stream of the connection
+    pub stream: TcpStream,
+    /// the port that it was opened to
+    pub port: u16,
+}
+
 /// Listens on a port of this machine.
 pub(crate) fn listen<R: Net<Listener = TcpListener, Stream = TcpStream>>(
     rt: &R,
@@ -98,22 +107,39 @@ pub(crate) fn listen<R: Net<Listener = TcpListener, Stream = TcpStream>>(
 }
 
 /// Connects to a port of this machine. Asks the system to send each request at once, without waiting for earlier ones.
-pub(crate) fn connect<R: Net<Stream = TcpStream>>(
+pub(crate) fn open_connection<R: Net<Stream = TcpStream>>(
     rt: &R,
     port: u16,
-) -> Result<TcpStream, ProgramFault>
-    ensures { IfErr result (HasNoPort port) }
+) -> Result<Connection, PortFault>
+    ensures opened { IfOk result (λ connection. connection.port ≡ port) }
+    ensures unreached { IfErr result (λ fault. fault.port ≡ port) }
 {
     let trouble = match TcpStream::connect(rt, (Ipv4Addr::LOCALHOST, port)) {
         Ok(stream) => {
             // (if this fails, requests may only arrive later)
             let _ = stream.set_nodelay(true);
-            return Ok(stream);
+            return Ok(Connection { stream, port });
         }
         Err(error) => match error.kind() {
             ErrorKind::ConnectionRefused => PortTrouble::Silent,
             _ => PortTrouble::Unreached,
         },
     };
-    Err(ProgramFault::PortFailed(PortFault { port, trouble }))
+    Err(PortFault { port, trouble })
+}
+
+/// Connects to a port of this machine, as [`open_connection`] does.
+pub(crate) fn connect<R: Net<Stream = TcpStream>>(
+    rt: &R,
+    port: u16,
+) -> Result<TcpStream, ProgramFault>
+    ensures { IfErr result (HasNoPort port) }
+{
+    match open_connection(rt, port) {
+        Ok(connection) => {
+            let Connection { stream, .. } = connection;
+            Ok(stream)
+        }
+        Err(fault) => Err(ProgramFault::PortFailed(fault)),
+    }
 }

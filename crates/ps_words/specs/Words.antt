@@ -12,7 +12,7 @@ use Rattle.ps_grid.specs.declared.parties.TheConstants.{REPLICAS, SEATS, WORKERS
 use Rattle.ps_words.specs.declared.options.TheConstants.{LONGEST_IDLE, LONGEST_PAUSE, LONGEST_WAIT, MOST_SESSIONS}
 use Rattle.ps_words.specs.declared.arguments.TheConstants.{LAST_PORT}
 use Rattle.ps_words.specs.declared.options.Options.{Options}
-use Rattle.ps_words.specs.declared.options.Options.TheVariants.{Follow, Run, Serve, Squash, Sync, Table, Talk}
+use Rattle.ps_words.specs.declared.options.Options.TheVariants.{Follow, Join, Run, Serve, Squash, Sync, Table, Talk}
 
 -- an option with a number from least to most, which may be left out ..
 abbrev pub ranged_option : Text → ℕ → ℕ → Rule
@@ -72,6 +72,10 @@ abbrev pub sync_app : App
 sync_app = with_rule (with_rule (with_rule (new_app (codes "sync")) (needed_option (codes "from") LAST_PORT))
     (needed_option (codes "to") LAST_PORT)) (flag_option (codes "explain"))
 
+abbrev pub join_app : App
+join_app = with_rule (with_rule (with_rule (with_rule (new_app (codes "join")) (needed_option (codes "from") LAST_PORT))
+    (needed_option (codes "to") LAST_PORT)) (flag_option (codes "once"))) (flag_option (codes "explain"))
+
 abbrev pub follow_app : App
 follow_app = with_rule (with_rule (with_rule (with_rule (new_app (codes "follow"))
     (needed_option (codes "from") LAST_PORT))
@@ -88,11 +92,11 @@ squash_app = with_rule (new_app (codes "squash")) (text_option (codes "keep"))
 -- the program has one of the commands, and a version
 abbrev pub sheet_app : App
 sheet_app = with_subcommand (with_subcommand (with_subcommand (with_subcommand (with_subcommand (with_subcommand
-    (with_subcommand (on_top (λ s. record s {
+    (with_subcommand (with_subcommand (on_top (λ s. record s {
       subcommand_required = true;
       has_version = true;
-    }) (new_app (codes "sheet"))) run_app.top) table_app.top) serve_app.top) sync_app.top) follow_app.top) talk_app.top)
-    squash_app.top
+    }) (new_app (codes "sheet"))) run_app.top) table_app.top) serve_app.top) sync_app.top) join_app.top)
+    follow_app.top) talk_app.top) squash_app.top
 
 -- among a command's matches the option has this number
 abbrev pub GivesNumber : List Row → Text → ℕ → Type 0
@@ -119,6 +123,7 @@ name_of (Run o) = codes "run"
 name_of (Table o) = codes "table"
 name_of (Serve o) = codes "serve"
 name_of (Sync o) = codes "sync"
+name_of (Join o) = codes "join"
 name_of (Follow o) = codes "follow"
 name_of (Talk o) = codes "talk"
 name_of (Squash o) = codes "squash"
@@ -139,6 +144,8 @@ GivesNumbers rows (Serve o) = GivesNumber rows (codes "port") o.port × GivesCou
     × GivesFlag rows (codes "squash") o.sheet.squash
 GivesNumbers rows (Sync o) = GivesNumber rows (codes "from") o.from × GivesNumber rows (codes "to") o.to
     × GivesFlag rows (codes "explain") o.explain
+GivesNumbers rows (Join o) = GivesNumber rows (codes "from") o.from × GivesNumber rows (codes "to") o.to
+    × GivesFlag rows (codes "once") o.once × GivesFlag rows (codes "explain") o.explain
 GivesNumbers rows (Follow o) = GivesNumber rows (codes "from") o.from × GivesFlag rows (codes "until-now") o.until_now
     × GivesNumber rows (codes "every") o.every × GivesFlag rows (codes "explain") o.explain
 GivesNumbers rows (Talk o) = GivesNumber rows (codes "to") o.to × GivesFlag rows (codes "explain") o.explain

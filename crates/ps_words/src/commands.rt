@@ -4,6 +4,7 @@ ghost use Rattle.clap.specs.Words.{app_of};
 ghost use Rattle.clap.specs.declared.builder.command.Command.TheViews.{out-Command as fields_of};
 ghost use Rattle.ps_words.specs.Words.{
   follow_app,
+  join_app,
   run_app,
   serve_app,
   sheet_app,
@@ -19,9 +20,10 @@ use crate::arguments::{
 };
 use crate::help::{
     ENTRIES_HELP, EVERY_HELP, EXPLAIN_HELP, FOLLOW_HELP, FOLLOWED_HELP, FROM_HELP, IDLE_HELP,
-    KEEP_HELP, PORT_EXPLAIN_HELP, PORT_HELP, RUN_HELP, SEATS_HELP, SERVE_HELP, SESSIONS_HELP,
-    SHEET_HELP, SQUASH_HELP, SQUASHED_HELP, STRICT_HELP, SYNC_HELP, TABLE_HELP, TALK_EXPLAIN_HELP,
-    TALK_HELP, TALKED_HELP, TITLE_HELP, TO_HELP, UNTIL_NOW_HELP, WAIT_HELP, WORKERS_HELP,
+    JOIN_HELP, JOINED_FIRST_HELP, JOINED_SECOND_HELP, KEEP_HELP, ONCE_HELP, PORT_EXPLAIN_HELP,
+    PORT_HELP, RUN_HELP, SEATS_HELP, SERVE_HELP, SESSIONS_HELP, SHEET_HELP, SQUASH_HELP,
+    SQUASHED_HELP, STRICT_HELP, SYNC_HELP, TABLE_HELP, TALK_EXPLAIN_HELP, TALK_HELP, TALKED_HELP,
+    TITLE_HELP, TO_HELP, UNTIL_NOW_HELP, WAIT_HELP, WORKERS_HELP,
 };
 use crate::options::{LONGEST_IDLE, LONGEST_PAUSE, LONGEST_WAIT, MOST_SESSIONS};
 use clap::Command;
@@ -98,6 +100,22 @@ fn sync_command<'a>(alloc: Global) -> Result<Command<'a>, AllocError>
     with_option(command, explain)
 }
 
+/// The command `join`.
+fn join_command<'a>(alloc: Global) -> Result<Command<'a>, AllocError>
+    ensures app { IfOk result (λ command. app_of command ≡ join_app) }
+    ensures local { IfOk result (λ command. (fields_of command).has_globals ≡ false) }
+{
+    let about = "keeps two replicas at the same changes";
+    let from = needed_option(alloc, "from", LAST_PORT, JOINED_FIRST_HELP);
+    let command = with_option(new_command(alloc, "join", about, JOIN_HELP), from)?;
+    let to = needed_option(alloc, "to", LAST_PORT, JOINED_SECOND_HELP);
+    let command = with_option(command, to)?;
+    let once = flag_option(alloc, "once", ONCE_HELP);
+    let command = with_option(command, once)?;
+    let explain = flag_option(alloc, "explain", PORT_EXPLAIN_HELP);
+    with_option(command, explain)
+}
+
 /// The command `follow`.
 fn follow_command<'a>(alloc: Global) -> Result<Command<'a>, AllocError>
     ensures app { IfOk result (λ command. app_of command ≡ follow_app) }
@@ -156,6 +174,7 @@ pub(crate) fn sheet_command<'a>(alloc: Global) -> Result<Command<'a>, AllocError
         .subcommand(table_command(alloc)?)?
         .subcommand(serve_command(alloc)?)?
         .subcommand(sync_command(alloc)?)?
+        .subcommand(join_command(alloc)?)?
         .subcommand(follow_command(alloc)?)?
         .subcommand(talk_command(alloc)?)?
         .subcommand(squash_command(alloc)?)

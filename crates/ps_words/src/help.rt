@@ -42,6 +42,16 @@ pub const FROM_HELP: &str = "the port of the replica whose deltas are pulled, 1 
 /// What `--to` means.
 pub const TO_HELP: &str = "the port of the replica that takes them in, 1 to 65535";
 
+/// What `--from` of `join` means.
+pub const JOINED_FIRST_HELP: &str =
+    "the port of the replica whose changes go to the other one first, 1 to 65535";
+
+/// What `--to` of `join` means.
+pub const JOINED_SECOND_HELP: &str = "the port of the other replica, 1 to 65535";
+
+/// What `--once` means.
+pub const ONCE_HELP: &str = "ends once each replica has all that the other one had";
+
 /// What `--from` of `follow` means.
 pub const FOLLOWED_HELP: &str = "the port of the replica that is followed, 1 to 65535";
 
@@ -84,6 +94,7 @@ Examples:
   printf '2,=[.A1]*3\\n' | sheet table
   sheet serve --port 7001
   sheet sync --from 7001 --to 7002
+  sheet join --from 7001 --to 7002
   sheet follow --from 7001 --until-now > plan.lines
   sheet talk --to 7001 < my.lines
   sheet squash < plan.lines > small
@@ -224,6 +235,30 @@ writes
   synced 1
 
   sheet sync --from 7002 --to 7001 --explain";
+
+/// What stands below the options of `sheet join --help`.
+pub const JOIN_HELP: &str = "\
+Both replicas listen on this machine, 127.0.0.1. All that the first one has is
+merged at the second one, and then all that the second one has at the first. After
+that each new change of one goes to the other at once, until the command is stopped.
+A change that a replica has already changes nothing there.
+
+It connects again where a connection ends or a port can't be connected to: after 0.1
+seconds, then after twice as long each time, at most 10 seconds. Standard error gets
+`joined 7001 and 7002` whenever both are at the same changes over new connections,
+and a line `port 7002: ..` with the reason when one of them is lost.
+
+With --once it writes `joined` on standard output once each has all that the other
+one had, and ends. A fault ends it then, and changes that were merged stay.
+
+Examples:
+
+  sheet join --from 7001 --to 7002
+  sheet join --from 7001 --to 7002 --once --explain
+
+The second one writes
+
+  joined";
 
 /// What stands below the options of `sheet follow --help`.
 pub const FOLLOW_HELP: &str = "\

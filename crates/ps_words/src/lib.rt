@@ -22,7 +22,7 @@ pub use help::{
     WORKERS_HELP,
 };
 pub use options::{
-    FollowOptions, LONGEST_IDLE, LONGEST_PAUSE, LONGEST_WAIT, MOST_SESSIONS, Options, RunOptions,
-    ServeOptions, SheetOptions, SquashOptions, SyncOptions, TableOptions, TalkOptions,
+    FollowOptions, JoinOptions, LONGEST_IDLE, LONGEST_PAUSE, LONGEST_WAIT, MOST_SESSIONS, Options,
+    RunOptions, ServeOptions, SheetOptions, SquashOptions, SyncOptions, TableOptions, TalkOptions,
 };
 pub use words::{PAGE_IS_GONE, asks_for_page, read_words};

@@ -96,6 +96,21 @@ pub struct SyncOptions {
     ghost to_in_range: { 1 ≤ to },
 }
 
+/// What `sheet join` is asked for.
+#[derive(Clone, Copy, PartialEq, Eq)]
+pub struct JoinOptions {
+    /// The port of the replica whose changes go first, 1 or more.
+    pub from: u16,
+    /// The port of the other replica, 1 or more.
+    pub to: u16,
+    /// Whether it ends once each has all that the other one had.
+    pub once: bool,
+    /// Whether standard error gets the reason if a port can't be used.
+    pub explain: bool,
+    ghost from_in_range: { 1 ≤ from },
+    ghost to_in_range: { 1 ≤ to },
+}
+
 /// What `sheet follow` is asked for.
 #[derive(Clone, Copy, PartialEq, Eq)]
 pub struct FollowOptions {
@@ -139,6 +154,8 @@ pub enum Options<'a> {
     Serve(ServeOptions<'a>),
     /// Pushes all changes of one replica to another.
     Sync(SyncOptions),
+    /// Merges the changes of each of two replicas at the other.
+    Join(JoinOptions),
     /// Writes all changes of a replica as change lines.
     Follow(FollowOptions),
     /// Asks a server each line of standard input.

@@ -6,8 +6,8 @@ ghost use Rattle.ps_words.specs.Words.{asks_for_page, name_of, sheet_app};
 
 use crate::commands::sheet_command;
 use crate::options::{
-    FollowOptions, LONGEST_IDLE, LONGEST_PAUSE, LONGEST_WAIT, MOST_SESSIONS, Options, RunOptions,
-    ServeOptions, SheetOptions, SquashOptions, SyncOptions, TableOptions, TalkOptions,
+    FollowOptions, JoinOptions, LONGEST_IDLE, LONGEST_PAUSE, LONGEST_WAIT, MOST_SESSIONS, Options,
+    RunOptions, ServeOptions, SheetOptions, SquashOptions, SyncOptions, TableOptions, TalkOptions,
 };
 use clap::{ArgMatches, Error};
 use ps_grid::{REPLICAS, SEATS, WORKERS};
@@ -167,6 +167,21 @@ fn sync_options<'a>(matches: &ArgMatches<'a>) -> Option<Options<'a>>
     Some(Options::Sync(SyncOptions { from, to, explain }))
 }
 
+/// The ports of `join`, and its flags.
+fn join_options<'a>(matches: &ArgMatches<'a>) -> Option<Options<'a>>
+    ensures { IfSome result (λ options. (name_of options ≡ codes "join")
+        × GivesNumbers (rows_of (found_of matches.now)) options) }
+{
+    let first = port_of(matches, "from")?;
+    let second = port_of(matches, "to")?;
+    Some(Options::Join(JoinOptions {
+        from: first,
+        to: second,
+        once: flag_of(matches, "once"),
+        explain: flag_of(matches, "explain"),
+    }))
+}
+
 /// The port and the pause of `follow`, and its flags.
 fn follow_options<'a>(matches: &ArgMatches<'a>) -> Option<Options<'a>>
     ensures { IfSome result (λ options. (name_of options ≡ codes "follow")
@@ -214,6 +229,7 @@ fn options_of<'a>(name: &str, matches: &ArgMatches<'a>) -> Option<Options<'a>>
         "table" => table_options(matches),
         "serve" => serve_options(matches),
         "sync" => sync_options(matches),
+        "join" => join_options(matches),
         "follow" => follow_options(matches),
         "talk" => talk_options(matches),
         "squash" => Some(squash_options(matches)),
@@ -244,8 +260,6 @@ pub fn read_words<'a>(alloc: Global, words: &'a [String]) -> Result<Options<'a>,
 pub const PAGE_IS_GONE: &str = "sheet page is gone: sheet serve has the page at its own port";
 
 /// Whether the program's words ask for the command `page`, which earlier versions had.
-///
-/// Cost: constant.
 pub fn asks_for_page(words: &[String]) -> bool
     ensures { result ≡ asks_for_page (map string_bytes words.now) }
 {

@@ -6,6 +6,7 @@
 //! - `sheet table` reads a table of CSV and writes the table of its shown values.
 //! - `sheet serve` answers the lines of several connections, side by side and on one sheet, and shows it to browsers.
 //! - `sheet sync` pushes all changes of one replica to another; both listen on this machine.
+//! - `sheet join` merges the changes of each of two such replicas at the other, once or until it is stopped.
 //! - `sheet follow` writes the changes of such a replica as change lines.
 //! - `sheet talk` is a session at such a replica.
 //! - `sheet squash` makes few change lines of many delta lines.
@@ -31,9 +32,9 @@ ghost use Rattle.ps_grid.specs.Blanks.{IsBlankOf};
 use clap::Error;
 use clap::error::ErrorKind;
 use ps_commands::{
-    KeptOnlooker, Onlooker, ProgramFault, answer_kept, answer_lines, follow_on, leave_unfreed,
-    lost_file, open_kept_sheet, port_fault, serve, serve_kept, squash_kept, squash_on, status_of,
-    sync_on, table_on, talk_on, tell_opened,
+    KeptOnlooker, Onlooker, ProgramFault, answer_kept, answer_lines, follow_on, join_on,
+    join_once_on, leave_unfreed, lost_file, open_kept_sheet, port_fault, serve, serve_kept,
+    squash_kept, squash_on, status_of, sync_on, table_on, talk_on, tell_opened,
 };
 use ps_device::{ConsoleOutput, Reading, Sink, Writing};
 use ps_eval::Meter;
@@ -163,6 +164,7 @@ fn wants_words(options: Options<'_>) -> bool {
     match options {
         Options::Serve(options) => options.explain,
         Options::Sync(options) => options.explain,
+        Options::Join(options) => options.explain,
         Options::Follow(options) => options.explain,
         Options::Talk(options) => options.explain,
         Options::Run(_) | Options::Table(_) | Options::Squash(_) => false,
@@ -216,6 +218,11 @@ fn on_standard<
             let mut sink = console::<O>(rt, counts.output)?;
             sync_on(threads, rt.alloc(), options, &mut sink)
         }
+        Options::Join(options) if options.once => {
+            let mut sink = console::<O>(rt, counts.output)?;
+            join_once_on(threads, rt.alloc(), options, &mut sink)
+        }
+        Options::Join(options) => Err(join_on(threads, rt.alloc(), options, rt.stderr())),
         Options::Follow(options) => {
             let mut sink = console::<O>(rt, counts.output)?;
             follow_on(threads, rt.alloc(), options, &mut sink)

@@ -34,11 +34,13 @@ returns c =
     ∙ ap₂ with_subcommand with_table (ap (λ (a : App). a.top) c.in_ok-serve_command.ensures.app) in
     let with_sync = c.in_ok-subcommand-4.ensures.shape c.in_ok-sync_command.ensures.local
     ∙ ap₂ with_subcommand with_serve (ap (λ (a : App). a.top) c.in_ok-sync_command.ensures.app) in
-    let with_follow = c.in_ok-subcommand-5.ensures.shape c.in_ok-follow_command.ensures.local
-    ∙ ap₂ with_subcommand with_sync (ap (λ (a : App). a.top) c.in_ok-follow_command.ensures.app) in
-    let with_talk = c.in_ok-subcommand-6.ensures.shape c.in_ok-talk_command.ensures.local
+    let with_join = c.in_ok-subcommand-5.ensures.shape c.in_ok-join_command.ensures.local
+    ∙ ap₂ with_subcommand with_sync (ap (λ (a : App). a.top) c.in_ok-join_command.ensures.app) in
+    let with_follow = c.in_ok-subcommand-6.ensures.shape c.in_ok-follow_command.ensures.local
+    ∙ ap₂ with_subcommand with_join (ap (λ (a : App). a.top) c.in_ok-follow_command.ensures.app) in
+    let with_talk = c.in_ok-subcommand-7.ensures.shape c.in_ok-talk_command.ensures.local
     ∙ ap₂ with_subcommand with_follow (ap (λ (a : App). a.top) c.in_ok-talk_command.ensures.app) in
-    IfOk-weaker c.subcommand-7.result _ _
+    IfOk-weaker c.subcommand-8.result _ _
     (λ command h. h.shape c.in_ok-squash_command.ensures.local
     ∙ ap₂ with_subcommand with_talk (ap (λ (a : App). a.top) c.in_ok-squash_command.ensures.app))
-    c.subcommand-7.ensures
+    c.subcommand-8.ensures
