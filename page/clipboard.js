@@ -102,7 +102,10 @@ for (const kind of ['copy', 'cut'])
   on(document, kind, event => {
     if (!isAtGrid()) return;
     claim(event);
-    if (acting || !isKnown(selected())) { tell('The cells are still being read: once more, please.'); return; }
+    if (acting || isMoving || !isKnown(selected())) {
+      tell('The cells are still being read: once more, please.');
+      return;
+    }
     [lastText, lastCopy] = [copied(), JSON.stringify(copiedEntries())];
     event.clipboardData.setData('text/plain', lastText);
     event.clipboardData.setData(FORM, lastCopy);
@@ -112,11 +115,15 @@ for (const kind of ['copy', 'cut'])
 on(document, 'paste', event => {
   if (!isAtGrid()) return;
   claim(event);
-  const text = event.clipboardData.getData('text/plain'), isLast = text === lastText, from = cutArea;
-  // (a clipboard may drop the second form)
-  const copy = readCopy(event.clipboardData.getData(FORM) || isLast && lastCopy), range = selected();
-  dropCut();
-  if (!copy) return pasteText(text);
-  if (from && isLast) return moveCut(from, [range.left, range.top]);
-  return putMany(repeated(copy, range));
+  const [text, form] = ['text/plain', FORM].map(kind => event.clipboardData.getData(kind));
+  afterMove(() => { if (editing) insert(text); else paste(text, form); });
 });
+function paste(text, form) {
+  const isLast = text === lastText, from = cutArea, range = selected();
+  // (a clipboard may drop the second form)
+  const copy = readCopy(form || isLast && lastCopy);
+  dropCut();
+  if (!copy) pasteText(text);
+  else if (from && isLast) moveCut(from, [range.left, range.top]);
+  else putMany(repeated(copy, range));
+}

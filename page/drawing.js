@@ -29,6 +29,14 @@ function moveTo([column, row], isExtending) {
   reveal(to);
   select(isExtending ? current : to, to);
 }
+// A move that has to wait for a reply is made where nothing else was selected since it was asked for.
+let askedAt = null;
+const askMove = () => { askedAt = corner; };
+function moveLate(cell, isExtending) {
+  if (corner !== askedAt || editing || !options.hidden) return;
+  moveTo(cell, isExtending);
+  askMove();
+}
 
 // Drawing: only what is visible has elements.
 const MOST_FLASHING = 40;
@@ -135,7 +143,7 @@ function drawLine() {
   $('value').className = isFault || note ? 'fault' : '';
   const hint = entry[0] === '=' && !isFault ? '' : kind;
   if ($('hint').textContent !== hint) $('hint').textContent = hint;
-  if (!editing && marks.has(keyOf(...current))) marks.get(keyOf(...current)).isSeen = true;
+  if (isAtGrid() && marks.has(keyOf(...current))) marks.get(keyOf(...current)).isSeen = true;
   drawSums();
 }
 function fill(element, cell, isNew) {

@@ -4,9 +4,8 @@ let editing = null, begunWith = '', isTyped = false, picked = null, pickedCell =
 const field = () => editing === 'line' ? line : editor;
 function edit(text, where, wasTyped = false) {
   if (editing) return;
-  if (!link.isHeard) { tell(NO_LINK); return; }
   hideOptions();
-  tell('');
+  tell(link.isHeard ? '' : WAITS, current, true);
   corner = current;
   [editing, begunWith, isTyped] = [where, heldAt(current), wasTyped];
   editor.value = text;
@@ -30,6 +29,11 @@ function stopEditing() {
   focusGrid();
   draw();
 }
+/** Ends what is edited; whether it has ended. */
+function hasEnded() {
+  if (editing) commit(0, 0);
+  return !editing;
+}
 /** Where one is after an entry: Enter goes back to the column where a row of Tabs began. */
 function moveAfter(cell, columns, rows) {
   const first = home === null ? cell[0] : home;
@@ -40,7 +44,7 @@ function moveAfter(cell, columns, rows) {
 async function commit(columns, rows, isArrow) {
   const text = field().value, cell = current, base = begunWith, was = textOf(cell, base);
   if (!link.isHeard && text !== was) {
-    tell('There is no connection: the entry waits here until it is back.', cell, true);
+    tell(WAITS, cell, true);
     return;
   }
   stopEditing();
@@ -53,7 +57,7 @@ async function commit(columns, rows, isArrow) {
   if (refused) takeUpAgain(refused, to); else tellNote(cell, text);
 }
 function takeUpAgain({ cell, text, why }, to) {
-  if (editing || current !== to || !link.isHeard) mark(cell, text, why || 'It was not put here.');
+  if (!isAtGrid() || current !== to || !link.isHeard) mark(cell, text, why || 'It was not put here.');
   else {
     select(cell);
     reveal(cell);
@@ -117,4 +121,7 @@ for (const [box, other] of [[editor, line], [line, editor]]) {
     if (box === editor) placeEditor();
   });
 }
-on(line, 'focus', () => edit(line.value, 'line'));
+on(line, 'focus', () => {
+  if (isMoving) focusGrid();
+  afterMove(() => { line.focus(); edit(line.value, 'line'); });
+});

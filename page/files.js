@@ -26,8 +26,9 @@ function separatorOf(text) {
 /** Takes in a file: it tells first what would change, and then what was refused. */
 async function openCsv(file) {
   if (file.size > LARGEST_FILE) { tell('The file is too large: at most 4 MB are taken in.'); return; }
+  const at = current;
   const text = new TextDecoder().decode(await file.arrayBuffer()), [rows, breaks] = readFields(text, separatorOf(text));
-  const wanted = placed(rows, current), inside = wanted.filter(([cell]) => isInGrid(cell));
+  const wanted = placed(rows, at), inside = wanted.filter(([cell]) => isInGrid(cell));
   const entries = await readArea('entries', areaAround(inside.map(([cell]) => cell))).catch(() => null);
   if (!entries) { tell(NO_LINK); return; }
   const was = cell => textIn(entries, cell);
@@ -35,7 +36,7 @@ async function openCsv(file) {
   const changed = inside.filter(isNew), filled = changed.filter(([cell]) => was(cell));
   const size = `${several(rows.length, 'row')} and ${several(max(...rows.map(row => row.length)), 'column')}`;
   const beyond = wanted.length - inside.length;
-  const what = `${file.name}: ${size}, from ${nameOf(current)} on. ${several(changed.length, 'cell')} would change, ` +
+  const what = `${file.name}: ${size}, from ${nameOf(at)} on. ${several(changed.length, 'cell')} would change, ` +
     `${filled.length} of them hold something now.` + (beyond ? ` ${several(beyond, 'cell')} beyond the sheet.` : '');
   const due = wanted.filter(each => !isInGrid(each[0]) || isNew(each));
   if (await question(what, ['Take in', 'Cancel']) === 0) await putMany(due, breaks);
@@ -44,11 +45,15 @@ $('file').onchange = event => {
   if (event.target.files[0]) openCsv(event.target.files[0]);
   event.target.value = '';
 };
-on(grid, 'dragover', event => claim(event));
-on(grid, 'drop', event => {
-  claim(event);
-  if (event.dataTransfer.files[0]) openCsv(event.dataTransfer.files[0]);
-});
+// Wherever a file is dropped, it is taken in, since a browser would go away from the page to it. A text goes into a
+// field.
+for (const kind of ['dragover', 'drop'])
+  on(document, kind, event => {
+    const { types, files } = event.dataTransfer;
+    if (event.target.tagName === 'INPUT' && !types.includes('Files')) return;
+    claim(event);
+    if (files[0]) openCsv(files[0]);
+  });
 /** Lays out the used part on paper, as a plain table. */
 async function layOutPaper() {
   const area = await usedArea(), paper = $('paper');

@@ -3,6 +3,7 @@ let matches = [], match = -1, sought = '';
 async function find(way) {
   const text = $('sought').value.toLowerCase();
   if (!text) { $('found').textContent = ''; return; }
+  askMove();
   try {
     const [entries, values] = await readBoth(ALL);
     const keys = [...new Set([...values.keys(), ...entries.keys()])].sort((a, b) => a - b);
@@ -15,7 +16,7 @@ async function find(way) {
   if (text !== sought) [sought, match, way] = [text, -1, 1];
   match = matches.length ? (match + way + matches.length) % matches.length : -1;
   $('found').textContent = matches.length ? `${match + 1} of ${matches.length}` : 'nowhere';
-  if (matches.length && !editing) moveTo(cellAt(matches[match]));
+  if (matches.length) moveLate(cellAt(matches[match]));
 }
 function openFind() {
   $('find').hidden = false;

@@ -1,5 +1,7 @@
-// The keys of the grid. A move that has to ask the server holds up the keys after it, so that none goes elsewhere.
-let isMoving = false, heldKeys = [];
+// The keys of the grid. A move that has to ask the server holds up the keys, clicks and pastes after it, so that none
+// goes elsewhere.
+let isMoving = false, heldUp = [];
+const afterMove = act => { if (isMoving) heldUp.push(act); else act(); };
 const isControl = event => event.ctrlKey || event.metaKey;
 function target(event) {
   const isFar = event.shiftKey && event.key !== 'Tab', [column, row] = isFar ? corner : current;
@@ -31,24 +33,26 @@ async function endFrom([column, row], isWhole) {
   return keys.length ? [area.right, isWhole ? area.bottom : row] : isWhole ? [0, 0] : [0, row];
 }
 async function moveFar(finding, isExtending) {
+  askMove();
   isMoving = true;
   try {
-    moveTo(await finding, isExtending);
+    moveLate(await finding, isExtending);
   } catch {
     tell(NO_LINK);
+    heldUp = [];
   }
   isMoving = false;
-  while (heldKeys.length && !isMoving) replay(heldKeys.shift());
+  while (heldUp.length && !isMoving) heldUp.shift()();
 }
-/** Does what a held key would have done. */
+/** Does what a key would have done that was held up. */
 function replay(event) {
+  const { key } = event;
   if (!editing) gridKey(event);
-  else if (event.key.length > 1) editorKey(event);
-  else if (!isControl(event)) {
-    editor.setRangeText(event.key, editor.selectionStart, editor.selectionEnd, 'end');
-    editor.dispatchEvent(new Event('input'));
-  }
+  else if (key === 'Backspace') document.execCommand('delete');
+  else if (key.length > 1) editorKey(event);
+  else if (!isControl(event)) insert(key);
 }
+const insert = text => document.execCommand('insertText', false, text);
 const COMMANDS = {
   a: () => select([0, 0], [COLUMNS - 1, ROWS - 1]), z: undo, y: redo, d: fillDown, r: fillRight, f: openFind,
   p: printSheet, Z: redo,
@@ -75,9 +79,11 @@ function plainKey(event) {
   else if (key === 'Enter' && event.shiftKey) moveTo([current[0], current[1] - 1]);
   else if (key === 'Enter' || key === 'F2') begin();
   else if (key === 'Delete' || key === 'Backspace') clearArea(selected());
-  else if (key === 'Escape') { hideOptions(); tell(''); dropCut(); select(current); }
+  else if (key === 'Escape') {
+    if (lastAnswer()) lastAnswer().click(); else { hideOptions(); tell(''); dropCut(); select(current); }
+  }
   else if (key === 'F1' || key === '?') openHelp();
-  else if (key === 'F6') (event.shiftKey ? $('help-button') : $('name')).focus();
+  else if (key === 'F6') (lastAnswer() || (event.shiftKey ? $('help-button') : $('name'))).focus();
   else if (key === ' ' && event.shiftKey) select([0, current[1]], [COLUMNS - 1, corner[1]]);
   else if (isTally && (key === '+' || key === '-')) step(key === '+' ? 'add' : 'sub', current, 1);
   else if (key.length === 1) edit(key, 'cell', true);
@@ -93,21 +99,29 @@ function widthKey(event) {
   return true;
 }
 function gridKey(event) {
-  if (isMoving) { heldKeys.push(event); claim(event); return; }
+  const isClipboard = isControl(event) && /^[cvx]$/i.test(event.key) || event.key === 'Insert';
+  if (isMoving && !isClipboard) { heldUp.push(() => replay(event)); claim(event); return; }
   if (event.isComposing || event.key === 'Shift' || event.key === 'Control') return;
-  const isTaken = event.altKey ? widthKey(event) : isControl(event) ? controlKey(event) : plainKey(event);
+  // (where Alt and a key give a sign, as @ on some keyboards, it is typed)
+  const isSign = !event.ctrlKey && /^[^\w\s]$/.test(event.key);
+  const isTaken = event.altKey && !isSign ? widthKey(event) : isControl(event) ? controlKey(event) : plainKey(event);
   if (isTaken) claim(event);
 }
-on(grid, 'keydown', event => { if (event.target === grid && !editing) gridKey(event); });
 on(document, 'keydown', event => {
   const { key, target } = event;
-  if (target === document.body && !editing) { focusGrid(); gridKey(event); return; }
-  if (isControl(event) && /^[fp]$/.test(key) && target !== grid) { COMMANDS[key](); claim(event); }
-  if (/^(F6|Escape)$/.test(key) && $('bar').contains(target) && !editing) grid.focus();
+  // (a click beside the cells, or a box that closes, takes the focus away also while one types)
+  if (target === grid || target === document.body) {
+    focusAgain();
+    if (editing) editorKey(event); else gridKey(event);
+    return;
+  }
+  if (isControl(event) && /^[fp]$/.test(key)) { COMMANDS[key](); claim(event); }
+  if (!/^(F6|Escape)$/.test(key)) return;
+  if ($('bar').contains(target) && !editing) grid.focus();
+  if ($('question').contains(target)) { if (key === 'F6') focusAgain(); else lastAnswer().click(); }
 });
 on($('name'), 'focus', event => {
-  if (editing) { commit(0, 0); event.target.focus(); }
-  event.target.select();
+  if (editing) (hasEnded() ? event.target : field()).focus(); else event.target.select();
 });
 on($('name'), 'keydown', event => {
   const to = event.key === 'Enter' ? readRange(event.target.value) : null;

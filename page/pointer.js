@@ -18,7 +18,7 @@ function selectHead(head, isExtending) {
 }
 function pressHead(event, head) {
   claim(event);
-  if (editing) commit(0, 0);
+  if (!hasEnded()) return;
   focusGrid();
   if (head) { selectHead(head, event.shiftKey); drag = { kind: 'heads', head }; } else COMMANDS.a();
 }
@@ -33,8 +33,7 @@ function pressCell(event, cell) {
     pick(cell);
     return;
   }
-  if (editing) commit(0, 0);
-  if (editing) return;
+  if (!hasEnded()) return;
   if (document.activeElement === $('naming')) {
     drag = { kind: 'names', from: cell };
     pickNames(cell);
@@ -52,10 +51,13 @@ function pressCell(event, cell) {
 on(grid, 'pointerdown', event => {
   const cell = cellOf(event.target), { head, edge } = event.target.dataset;
   if (event.button !== 0 || event.pointerType === 'touch' && !edge && event.target.id !== 'handle') return;
-  if (event.target.id === 'handle') { claim(event); drag = { kind: 'fill', source: selected() }; }
-  else if (edge) pressEdge(event, +edge);
-  else if (head || event.target.id === 'corner') pressHead(event, head);
-  else if (cell) pressCell(event, cell);
+  const press = () => {
+    if (event.target.id === 'handle') { claim(event); drag = { kind: 'fill', source: selected() }; }
+    else if (edge) pressEdge(event, +edge);
+    else if (head || event.target.id === 'corner') pressHead(event, head);
+    else if (cell) pressCell(event, cell);
+  };
+  if (isMoving) { claim(event); heldUp.push(() => { press(); drag = null; }); } else press();
 });
 on(grid, 'click', event => {
   const cell = cellOf(event.target), { head } = event.target.dataset;
@@ -91,7 +93,7 @@ for (const end of ['pointerup', 'pointercancel'])
   });
 on(grid, 'dblclick', event => {
   if (event.target.dataset.edge) fitWidth(+event.target.dataset.edge);
-  else if (cellOf(event.target) && !event.target.dataset.action) begin();
+  else if (cellOf(event.target) && !event.target.dataset.action) afterMove(begin);
 });
 on(document, 'pointerdown', event => {
   if (!options.contains(event.target) && !grid.contains(event.target)) hideOptions();

@@ -26,8 +26,11 @@ LINE_PARTS = 240
 OWN_PROPERTIES = {"after", "area", "before", "cell", "column", "entry", "from", "isHeard", "isSeen", "isUp", "kind",
                   "names", "source", "steps", "text", "why"}
 # Words that are declared outside of functions, and stand so often that they get short names.
-OFTEN = {"HEIGHT", "NO_LINK", "areaAround", "claim", "columnName", "focusGrid", "fromEntry", "hideOptions", "isInGrid",
-         "isSame", "isWithin", "numeralHabit", "putMany", "readArea", "textIn"}
+OFTEN = {"COLUMNS", "HEIGHT", "NO_LINK", "areaAround", "cellAt", "cellsOf", "claim", "columnName", "copiedArea",
+         "cutArea", "drawButtons", "drawOptions", "focusAgain", "focusGrid", "fromEntry", "hideOptions", "isControl",
+         "isCounter", "isInGrid", "isMoving", "isSame", "isWhole", "isWithin", "lastAnswer", "moveLate", "numeralHabit",
+         "pickedCell", "placeEditor", "putMany", "readArea", "readBoth", "readOptions", "readRange", "rowElements",
+         "several", "tellChange", "textIn"}
 # Words of one or two letters that are no names.
 RESERVED = {"do", "if", "in", "of"}
 

@@ -4,20 +4,16 @@ const VOTE = [['Friday lunch', 'Votes'], ['Pizza', '@tally'], ['Pasta', '@tally'
 const PLAN = [['Who', 'Days', 'Hours a day', 'Hours'], ['Ann', '@choice', '6', '=B2*C2'],
   ['Bob', '@choice', '8', '=B3*C3'], ['Eve', '@choice', '4', '=B4*C4'], ['', '', '', ''],
   ['All hours', '', '', '=SUM(D2:D4)']];
-async function fillIn(table) {
+function fillIn(table) {
   $('examples').hidden = true;
   isEmpty = false;
-  await putMany(placed(table, [0, 0]));
-  grid.focus();
+  putMany(placed(table, [0, 0]));
 }
-$('vote').onclick = () => fillIn(VOTE);
-$('plan').onclick = () => fillIn(PLAN);
-async function make(entry) {
+function make(entry) {
   const entryNow = heldAt(current), cell = current;
-  if (editing) { commit(0, 0); return; }
-  if (!entryNow) await putMany([[cell, entry]]);
+  if (editing) commit(0, 0);
+  else if (!entryNow) putMany([[cell, entry]]);
   else if (entryNow !== entry) tell(nameOf(cell) + ': This cell holds something. Delete it first.');
-  grid.focus();
 }
 function openHelp() {
   $('help').showModal();
@@ -27,17 +23,18 @@ const CLICKS = {
   tally: () => make('@tally'), choice: () => make('@choice'), undo, redo, 'help-button': openHelp,
   'open-csv': () => $('file').click(), 'save-rows': () => saveCsv('rows'), 'save-entries': () => saveCsv('entries'),
   'print': printSheet, 'find-button': openFind, 'fit': () => fitWidth(current[0]), 'fill-down': fillDown,
-  'fill-right': fillRight,
+  'fill-right': fillRight, vote: () => fillIn(VOTE), plan: () => fillIn(PLAN),
 };
 for (const [id, call] of Object.entries(CLICKS))
   $(id).onclick = () => {
     if ($('more').matches(':popover-open')) $('more').hidePopover();
-    focusGrid();
+    focusAgain();
     call();
   };
-$('help').onclose = () => grid.focus();
+$('help').onclose = focusAgain;
 on($('more'), 'toggle', event => {
   if (event.newState === 'open') beside($('more'), $('menu'));
+  else if (editing && document.activeElement === $('menu')) focusAgain();
 });
 function redraw() {
   draw();
@@ -48,7 +45,7 @@ on(window, 'resize', redraw);
 link.onLink = () => {
   document.body.classList.toggle('lost', !link.isHeard);
   $('link').textContent = link.words;
-  if (link.isUp && !link.isHeard) { seenAt = seenRange = ''; look(); }
+  if (link.isUp && !link.isHeard) { seenAt = seenRange = ''; look(); draw(); }
   if (link.isHeard) {
     document.body.classList.remove('unseen');
     tell('');
@@ -59,5 +56,6 @@ connect();
 Object.assign($('corner').style, { width: SIDE + 'px', height: HEIGHT + 'px', marginBottom: -HEIGHT + 'px' });
 layOut();
 drawButtons();
-draw();
+// (the cells can't be seen yet: they are drawn once the server has been asked for them)
+drawLine();
 grid.focus();

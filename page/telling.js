@@ -23,14 +23,17 @@ function beside(box, element, isAside) {
   box.style.left = max(4, min(left, innerWidth - box.offsetWidth - 8)) + 'px';
   box.style.top = max(4, isAbove ? above : min(below, innerHeight - box.offsetHeight - 4)) + 'px';
 }
-/** Gives the keys back to what is edited, with the caret at its end, or to the grid. */
+/** Gives the keys back to what is edited, or to the grid. */
 function focusAgain() {
-  if (!editing) { focusGrid(); return; }
-  field().focus();
-  field().setSelectionRange(field().value.length, field().value.length);
+  if (editing) field().focus(); else focusGrid();
 }
 let asking = Promise.resolve();
-/** Asks, and promises the number of the answer; the last one is taken where the box is closed without any. */
+/** The last answer of an open question. */
+const lastAnswer = () => $('question').open && $('question').lastElementChild.lastElementChild;
+/**
+ * Asks, and promises the number of the answer. The box takes no keys from what one types: F6 leads to it, and Escape
+ * takes the last answer.
+ */
 function question(text, answers) {
   asking = asking.then(() => showQuestion(text, answers));
   return asking;
@@ -40,21 +43,19 @@ function showQuestion(text, answers) {
     const box = $('question'), row = box.lastElementChild;
     box.firstElementChild.textContent = text;
     row.textContent = '';
-    const choose = i => {
-      box.close();
-      focusAgain();
-      done(i);
-    };
     answers.forEach((answer, i) => {
       const element = made('button', '', row);
       element.textContent = answer;
-      element.onclick = () => choose(i);
+      element.onclick = () => {
+        box.open = false;
+        focusAgain();
+        done(i);
+      };
     });
-    box.oncancel = event => { claim(event); choose(answers.length - 1); };
-    box.showModal();
-    row.lastElementChild.focus();
+    box.open = true;
   });
 }
+$('question').onmousedown = claim;
 
 // What was refused of a paste, a fill or a file: cell by cell its text and why, until the cell has been looked at.
 const marks = new Map();

@@ -1,5 +1,6 @@
 // The title of the window: the one that was given here, which this browser keeps, or the server's, or the text in the
-// first cell; and the port, by which sheets are told apart. A print has it at its head; a saved file has the given one as its name.
+// first cell; and the port, by which sheets are told apart. A print has it at its head; a saved file has the given one
+// as its name.
 const titles = recall('title'), givenTitle = () => titles.get('') || '';
 let servedTitle = '';
 function drawTitle() {

@@ -45,7 +45,7 @@ async function takeBack(from, to, word) {
     const [back, others] = await (act.steps[0].verb ? countBack : setBack)(act.steps);
     if (back.length) to.push({ steps: back });
     const first = (back[0] || { cell: others[0] }).cell;
-    if (!editing) moveTo(first);
+    moveLate(first);
     const which = `${several(others.length, 'cell')} left alone (${firstNames(others)})`;
     if (others.length) tell(which + ': somebody has changed ' + (others[1] ? 'them' : 'it') + ' since.', first, true);
   } catch {
@@ -55,5 +55,11 @@ async function takeBack(from, to, word) {
   drawButtons();
   look();
 }
-const undo = () => inTurn(() => takeBack(done, undone, 'undo'));
-const redo = () => inTurn(() => takeBack(undone, done, 'redo'));
+function undo() {
+  askMove();
+  return inTurn(() => takeBack(done, undone, 'undo'));
+}
+function redo() {
+  askMove();
+  return inTurn(() => takeBack(undone, done, 'redo'));
+}

@@ -25,7 +25,12 @@ function connect() {
   socket = opened;
   opened.onopen = () => { link.isUp = true; tellLink('waiting for the server'); };
   opened.onmessage = event => {
-    if (!link.isHeard) { link.isHeard = true; pause = FIRST_WAIT; tellLink('connected'); askAside(true); }
+    if (!link.isHeard) {
+      link.isHeard = true;
+      pause = FIRST_WAIT;
+      tellLink('connected');
+      setTimeout(askAside, 0, true);
+    }
     // A message has one reply or several. A reply is one line, or its first line tells how many follow.
     for (const lines = event.data.split('\n'); lines.length > 1;) {
       const more = /^(?:rows|entries) (.+)/.exec(lines[0]);

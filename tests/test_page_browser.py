@@ -200,12 +200,13 @@ class Keys(BrowserTest):
         page.type("31")
         page.key("Enter")
         page.key("ArrowUp")
-        page.wait_for("shownAt([0, 0])", "31")
+        # (a copy isn't made while an entry is on its way)
+        page.wait_for("acting || shownAt([0, 0])", "31")
         page.key("c", CONTROL)
         page.key("ArrowRight")
         page.key("v", CONTROL)
         self.assert_held("get B1", "val 31")
-        page.wait_for("shownAt([1, 0])", "31")
+        page.wait_for("acting || shownAt([1, 0])", "31")
         page.key("x", CONTROL)
         page.key("ArrowDown")
         page.key("v", CONTROL)
@@ -335,10 +336,9 @@ class Told(BrowserTest):
         self.assertEqual(page.value("document.body.className"), "lost")
         page.type("5")
         page.wait_for("document.getElementById('refusal').textContent",
-                      "There is no connection: nothing can be changed now.")
+                      "There is no connection: the entry waits here until it is back.")
         with serving(None, port=port):
             page.wait_for("document.body.className", "")
-            page.type("5")
             page.key("Enter")
             self.assert_shows(page, (0, 0), "5")
 

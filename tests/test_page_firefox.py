@@ -70,6 +70,21 @@ class InFirefox(ProgramTest):
         self.firefox.wait_for("!!document.querySelector('#question[open]')", False)
         self.assertEqual(self.client.ask("get A1"), "val 1")
 
+    def test_a_question_takes_no_keys(self):
+        self.firefox.type("mine")
+        self.client.ask("set A1 theirs")
+        self.firefox.wait_for("document.getElementById('refusal').hidden", False)
+        self.firefox.keys("Enter")
+        self.firefox.type("ne")
+        self.firefox.wait_for("!!document.querySelector('#question[open]')")
+        self.firefox.type("xt ")
+        # .. and a click beside the cells neither
+        self.firefox.click("document.getElementById('link')")
+        self.entry("entry")
+        self.firefox.click("document.querySelector('#question button')")
+        self.client.wait_for("get A2", "val next entry")
+        self.assertEqual(self.client.ask("get A1"), "val mine")
+
     def test_the_clipboard_and_help(self):
         self.entry("5")
         self.entry("=A1*2")

@@ -77,13 +77,17 @@ class Reader(FoundTest):
         texts = [node.get("name", {}).get("value", "") for node in self.nodes(page)]
         self.assertTrue(any("C1: This is no formula" in text for text in texts))
 
-    def test_a_question_is_a_dialog_that_has_the_keys(self):
+    def test_a_question_is_read_out_and_reached(self):
         page = self.filled()
         self.go(page, "A2")
         page.key("Delete")
         page.wait_for("!!document.querySelector('#question[open]')")
         dialogs = [node for node in self.nodes(page) if node.get("role", {}).get("value") == "dialog"]
         self.assertTrue(any("A2 is a counter that shows 3" in node["name"]["value"] for node in dialogs))
+        # it is read out at once, though the keys stay where they are
+        self.assertEqual(page.value("[document.getElementById('asked').role, document.activeElement.id]"),
+                         ["alert", "grid"])
+        page.key("F6")
         page.wait_for("document.activeElement.textContent", "Leave")
         page.key("Enter")
         page.wait_for("!document.querySelector('#question[open]')")
