@@ -1,7 +1,8 @@
 """The first picture of the page of `sheet serve`: how soon a browser shows it that has just started, on one core.
 
 Others may keep the core busy. So a start is in time by the clock or by the processor time that the browser has had:
-where nothing else runs on the core, it would be in time by both.
+where nothing else runs on the core, it would be in time by both. Where a plain page takes longer than it does on an idle
+core, this one may take longer in proportion.
 """
 import os
 import unittest
@@ -12,6 +13,8 @@ from program import NO_BROWSER, ProgramTest
 from servers import serving
 
 MOST_SECONDS, TRIES = 0.3, 20
+# A page of one word, and how long a start takes until it shows that, on an idle core.
+PLAIN, PLAIN_SECONDS = "data:text/html,plain", 0.1
 # Resolves once a page has first shown something.
 FIRST = """new Promise(done => new PerformanceObserver(list => list.getEntriesByName('first-contentful-paint')
   .forEach(entry => done(entry.startTime))).observe({ type: 'paint', buffered: true }))"""
@@ -39,9 +42,10 @@ class First(ProgramTest):
             self.skipTest(NO_BROWSER)
         with serving(None) as server:
             # a start may fall together with what the browser does besides
-            times = []
-            while not times or times[-1] > MOST_SECONDS:
+            times, most = [], MOST_SECONDS
+            while not times or times[-1] > most:
                 self.assertLess(len(times), TRIES, times)
+                most = MOST_SECONDS * max(1, first_picture(PLAIN) / PLAIN_SECONDS)
                 times.append(first_picture(server.url))
             self.assertGreater(times[-1], 0)
 
