@@ -53,7 +53,8 @@ class News(BrowserTest):
 
     def test_nothing_is_sent_while_nothing_changes(self):
         page = self.informed()
-        page.wait_for("underWay.length + waiting.length", 0)
+        # (the first news may still be due to be looked at)
+        page.wait_for("due + later + underWay.length + waiting.length", 0)
         page.value(SENT)
         time.sleep(3)
         sent = page.value("sent")
