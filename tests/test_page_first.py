@@ -1,8 +1,8 @@
 """The first picture of the page of `sheet serve`: how soon a browser shows it that has just started, on one core.
 
 Others may keep the core busy. So a start is in time by the clock or by the processor time that the browser has had:
-where nothing else runs on the core, it would be in time by both. Where a plain page takes longer than it does on an idle
-core, this one may take longer in proportion.
+where nothing else runs on the core, it would be in time by both. The goal is 0.3 seconds. Machines differ, and a slow
+one misses it: so three times what a page of one word takes is accepted, too.
 """
 import os
 import unittest
@@ -13,8 +13,8 @@ from program import NO_BROWSER, ProgramTest
 from servers import serving
 
 MOST_SECONDS, TRIES = 0.3, 20
-# A page of one word, and how long a start takes until it shows that, on an idle core.
-PLAIN, PLAIN_SECONDS = "data:text/html,plain", 0.1
+# A page of one word, and how many times as long as that this page may take.
+PLAIN, MOST_TIMES = "data:text/html,plain", 3
 # Resolves once a page has first shown something.
 FIRST = """new Promise(done => new PerformanceObserver(list => list.getEntriesByName('first-contentful-paint')
   .forEach(entry => done(entry.startTime))).observe({ type: 'paint', buffered: true }))"""
@@ -45,7 +45,7 @@ class First(ProgramTest):
             times, most = [], MOST_SECONDS
             while not times or times[-1] > most:
                 self.assertLess(len(times), TRIES, times)
-                most = MOST_SECONDS * max(1, first_picture(PLAIN) / PLAIN_SECONDS)
+                most = max(MOST_SECONDS, MOST_TIMES * first_picture(PLAIN))
                 times.append(first_picture(server.url))
             self.assertGreater(times[-1], 0)
 
