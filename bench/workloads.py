@@ -6,6 +6,7 @@ bench/workloads.py                 tells the names, what SIZE counts, and the SI
 
 `table`, `accounts` and `above` are tables for `./sheet table`, all others are lines for `./sheet run`.
 """
+import json
 import random
 import sys
 
@@ -233,6 +234,18 @@ def counters(draw, size):
         yield f"{draw.choice(('add', 'add', 'sub'))} {at(draw.randrange(1000))} {draw.randrange(1, 1000)}"
 
 
+def pairs(draw, size):
+    """options chosen, and pairs pushed, in turn, at a choice of 7,688 pairs of 64 options from 31 other replicas"""
+    yield "set A1 @choice"
+    for replica in range(2, 33):
+        here = sorted((draw.randrange(64), replica, sequence, 0) for sequence in range(1, 249))
+        yield f"push {json.dumps([['A1', None, [], here]], separators=(',', ':'))}"
+    for index in range(size):
+        option, other = draw.randrange(64), index // 2
+        pair = f"[{option},{2 + other % 31},{249 + other // 31},0]"
+        yield f'push [["A1",null,[],[{pair}]]]' if index % 2 else f"choose A1 {option}"
+
+
 def vote(draw, size):
     """people who vote on 50 choices: each ticks or unticks all in a cell of their own, counts in 50 counters with
     shares and a total, and looks at the result after every tenth"""
@@ -327,7 +340,7 @@ SIZES = {
     chained: (100_000, "formulas"), fanned: (100_000, "formulas"), mixed: (80_000, "formulas"),
     circled: (1000, "lines"), apart: (200, "formulas"), summed: (400_000, "lines"), unsummed: (400_000, "lines"),
     vote: (100, "people"), replicas: (50_000, "deltas"), accounts: (1000, "rows"), above: (1000, "rows"),
-    accounting: (2000, "edits"),
+    accounting: (2000, "edits"), pairs: (400, "lines"),
 }
 NAMES = {workload.__name__: workload for workload in SIZES}
 

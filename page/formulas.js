@@ -30,7 +30,7 @@ const rangesOf = entry => [...short(entry).matchAll(PLACES)].map(([place]) => pl
 
 // The formulas that were typed here with a $, which the sheet doesn't keep: cell by cell the typed text, and the entry
 // that it became. While the cell holds that entry, the text with its $ is shown and copied.
-const typed = recall('formulas');
+const typed = keptMap('formulas');
 function keepTyped(cell, text, entry) {
   const key = keyOf(...cell);
   if (!isFormula(text) || !text.includes('$')) { if (!typed.delete(key)) return; } else typed.set(key, [text, entry]);

@@ -8,13 +8,17 @@ const $ = id => document.getElementById(id);
 const on = (target, kind, call) => target.addEventListener(kind, call);
 /** Takes an event, so that the browser does nothing at it. */
 const claim = event => event.preventDefault();
-/** What this browser keeps by a name; nothing where it keeps nothing. */
-function recall(name) {
-  try {
-    return new Map(JSON.parse(localStorage.getItem(name) || '[]'));
-  } catch {
-    return new Map();
-  }
+// What this browser keeps: maps, each by its name. They are read after the first picture, since a browser that has just
+// started takes long for that.
+const kept = {};
+const keptMap = name => kept[name] = new Map();
+function recall() {
+  for (const name in kept)
+    try {
+      for (const [key, value] of JSON.parse(localStorage.getItem(name) || '[]')) kept[name].set(key, value);
+    } catch {
+      // (it keeps nothing by this name)
+    }
 }
 function keep(name, map) {
   try {

@@ -26,11 +26,14 @@ LINE_PARTS = 240
 OWN_PROPERTIES = {"after", "area", "before", "cell", "column", "entry", "from", "isHeard", "isSeen", "isUp", "kind",
                   "names", "source", "steps", "text", "why"}
 # Words that are declared outside of functions, and stand so often that they get short names.
-OFTEN = {"COLUMNS", "HEIGHT", "NO_LINK", "areaAround", "cellAt", "cellsOf", "claim", "columnName", "copiedArea",
-         "cutArea", "drawButtons", "drawOptions", "focusAgain", "focusGrid", "fromEntry", "hideOptions", "isControl",
-         "isCounter", "isInGrid", "isMoving", "isSame", "isWhole", "isWithin", "lastAnswer", "moveLate", "numeralHabit",
-         "pickedCell", "placeEditor", "putMany", "readArea", "readBoth", "readOptions", "readRange", "rowElements",
-         "several", "tellChange", "textIn"}
+OFTEN = {"COLUMNS", "HEIGHT", "NO_LINK", "afterMove", "areaAround", "askMove", "begunWith", "cellAt",
+         "cellsOf", "claim", "columnAt", "columnName", "commit", "copiedArea", "cutArea", "drag",
+         "drawButtons", "drawOptions", "drawTitle", "editorKey", "focusAgain", "focusGrid", "fromEntry",
+         "givenTitle", "heldUp", "hideOptions", "isAtGrid", "isControl", "isCounter", "isEmpty", "isInGrid",
+         "isMoving", "isSame", "isUnderstood", "isWhole", "isWithin", "knownCount", "lastAnswer", "lefts",
+         "moveLate", "nameLists", "namesFor", "numeralHabit", "passedOver", "pickedCell", "placeEditor",
+         "putMany", "readArea", "readBoth", "readOptions", "readRange", "rowElements", "rowsOf",
+         "seenSelected", "several", "tellChange", "textIn", "textOf"}
 # Words of one or two letters that are no names.
 RESERVED = {"do", "if", "in", "of"}
 

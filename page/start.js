@@ -47,15 +47,28 @@ link.onLink = () => {
   $('link').textContent = link.words;
   if (link.isUp && !link.isHeard) { seenAt = seenRange = ''; look(); draw(); }
   if (link.isHeard) {
-    document.body.classList.remove('unseen');
+    showGrid();
     tell('');
   }
 };
 link.onChange = look;
-connect();
+const showGrid = () => document.body.classList.remove('unseen');
 Object.assign($('corner').style, { width: SIDE + 'px', height: HEIGHT + 'px', marginBottom: -HEIGHT + 'px' });
 layOut();
 drawButtons();
-// (the cells can't be seen yet: they are drawn once the server has been asked for them)
 drawLine();
 grid.focus();
+// The first picture has the bar alone, and keys are taken already. What takes long in a browser that has just started
+// comes after it: the cells, the connection, and what the browser keeps.
+let hasStarted = false;
+function start() {
+  if (hasStarted) return;
+  hasStarted = true;
+  connect();
+  recall();
+  $('title').value = givenTitle();
+  layOutAgain();
+}
+new PerformanceObserver(start).observe({ type: 'paint', buffered: true });
+// (a page behind others has no picture, and a connection may be slow)
+setTimeout(() => { start(); showGrid(); }, 500);

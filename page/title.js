@@ -1,14 +1,13 @@
 // The title of the window: the one that was given here, which this browser keeps, or the server's, or the text in the
 // first cell; and the port, by which sheets are told apart. A print has it at its head; a saved file has the given one
 // as its name.
-const titles = recall('title'), givenTitle = () => titles.get('') || '';
+const titles = keptMap('title'), givenTitle = () => titles.get('') || '';
 let servedTitle = '';
 function drawTitle() {
   const title = givenTitle() || servedTitle || heldAt([0, 0])[0] === "'" && shownAt([0, 0]);
   const text = (title ? title + ' - sheet ' : 'Sheet ') + location.port;
   if (document.title !== text) document.title = text;
 }
-$('title').value = givenTitle();
 on($('title'), 'change', event => {
   titles.set('', event.target.value.trim());
   keep('title', titles);

@@ -2,7 +2,7 @@
 const SCALE = parseFloat(getComputedStyle(document.documentElement).fontSize) / 16;
 const WIDTH = Math.round(104 * SCALE), HEIGHT = Math.round(26 * SCALE), SIDE = Math.round(48 * SCALE);
 const LEAST_WIDTH = Math.round(24 * SCALE), MOST_WIDTH = 900;
-const widths = recall('widths');
+const widths = keptMap('widths');
 let lefts = [];
 
 const focusGrid = () => grid.focus({ preventScroll: true });
@@ -22,13 +22,16 @@ const widthOf = column => lefts[column + 1] - lefts[column];
 const pixels = area => [SIDE + lefts[area.left], HEIGHT + area.top * HEIGHT, lefts[area.right + 1] - lefts[area.left],
   (area.bottom - area.top + 1) * HEIGHT];
 
+/** Lays everything out anew, once widths have changed. */
+function layOutAgain() {
+  layOut();
+  sweep(cells, () => false);
+  sweep(heads, () => false);
+  draw();
+}
 function setWidth(column, width) {
   widths.set(column, max(LEAST_WIDTH, min(MOST_WIDTH, Math.round(width))));
-  layOut();
-  for (const elements of [cells, heads]) for (const element of elements.values()) element.remove();
-  cells.clear();
-  heads.clear();
-  draw();
+  layOutAgain();
 }
 /** Gives a column the width that the widest of its cells wants. */
 async function fitWidth(column) {

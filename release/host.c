@@ -1,6 +1,7 @@
-/* What the program asks of its host, besides the C library: its arguments, memory, `errno`, and sockets that don't block.
+/* What the program asks of its host, besides the C library: its arguments, memory, `errno`, sockets that don't block,
+ * and waits for several of them.
  *
- * The program is an object file, `sheet.o`, which the toolchain made from proved sources. It calls the seven functions
+ * The program is an object file, `sheet.o`, which the toolchain made from proved sources. It calls the nine functions
  * below by name and assumes what their comments say. They are written by hand and are not proved, so each is as small
  * as it can be. The calling convention is that of C on Linux x86-64.
  */
@@ -10,6 +11,7 @@
 #include <stdint.h>
 #include <stdlib.h>
 #include <string.h>
+#include <sys/epoll.h>
 #include <sys/ioctl.h>
 
 /* The arguments of the process. They never change, so any thread may read them. */
@@ -114,4 +116,35 @@ int32_t rattle_set_nonblocking(int32_t descriptor, bool is_on)
 {
     int value = is_on;
     return ioctl(descriptor, FIONBIO, &value);
+}
+
+/* What a wait found: what a descriptor is ready for, and the number that was given with it. It has 16 bytes, and the
+ * system's `struct epoll_event` 12.
+ */
+struct ready {
+    uint32_t events;
+    uint64_t data;
+};
+
+/* Adds a descriptor to a set, changes what is asked of it or removes it. Returns 0, or -1 and sets `errno`. */
+int32_t rattle_epoll_ctl(int32_t set, int32_t what, int32_t descriptor, uint32_t events, uint64_t data)
+{
+    struct epoll_event event = {.events = events, .data.u64 = data};
+    return epoll_ctl(set, what, descriptor, &event);
+}
+
+/* The most that one wait finds. What else is ready is found by the next one. */
+#define MOST_READY 256
+
+/* Waits until a descriptor of a set is ready, for so many milliseconds at most, or without a limit below 0. Puts what
+ * it finds at `found`, which has room for `room`, and returns how many, or -1 and sets `errno`.
+ */
+int64_t rattle_epoll_wait(int32_t set, struct ready *found, uint64_t room, int32_t milliseconds)
+{
+    struct epoll_event events[MOST_READY];
+    int count = epoll_wait(set, events, room < MOST_READY ? (int)room : MOST_READY, milliseconds);
+    for (int place = 0; place < count; place++) {
+        found[place] = (struct ready){events[place].events, events[place].data.u64};
+    }
+    return count;
 }

@@ -4,8 +4,8 @@
 The latter needs no kit: it tests the program that `./sheet` links of the released object.
 `./test --wrong` tries the mutants alone, and `./test --wrong CRATE` those of a crate, over what is proved already.
 The last line is `N passed, M failed` over everything that ran, and the exit status is 0 only where nothing failed.
-Tests that want a browser are left out where there is none, and by `./test --program` those that want git or the tests of
-the crates, which `rt ci` builds: then `, K skipped` follows.
+Tests that want a browser or a broker are left out where there is none, and by `./test --program` those that want git or
+the tests of the crates, which `rt ci` builds: then `, K skipped` follows.
 `./test --hunt MINUTES` looks for trouble by chance (`hunt/`, `docs/TESTING.md`), and ends in the same way.
 `./test --list` runs nothing. It prints what each test shows, and the function whose proof each mutant has to break.
 """
@@ -19,7 +19,7 @@ from typing import NamedTuple
 
 import compared
 import wrong
-from program import NO_BROWSER, NO_GIT, NO_TESTS, TOP
+from program import NO_BROKER, NO_BROWSER, NO_GIT, NO_TESTS, TOP
 from wrong import Fault
 
 # The tests of worked rows and of starts, which are also run on the program that the kit links.
@@ -148,8 +148,12 @@ def rows_of_proved():
     tally = Tally(0, 0)
     for text in ROWS:
         print(f"test: {text} on the program that the kit links", flush=True)
+        linked = TOP / "crates/sheet/out/sheet"
+        if not linked.is_file():
+            tally = tally.and_also(failed("the proved program isn't built, so it wasn't tested"))
+            continue
         words = [sys.executable, "-B", TOP / "tests", "--program", text]
-        environment = {**os.environ, "SHEET_PROGRAM": str(TOP / "crates/sheet/out/sheet")}
+        environment = {**os.environ, "SHEET_PROGRAM": str(linked)}
         ran = subprocess.run(words, stdin=subprocess.DEVNULL, stdout=subprocess.PIPE, text=True, env=environment)
         # (all but its last line, which has its counts)
         print(*ran.stdout.splitlines()[:-1], sep="\n", flush=True)
@@ -170,7 +174,8 @@ def refused(crate=""):
 
 def program(text, reasons):
     """Runs the tests of this folder whose names have the text. A test may be left out for these reasons."""
-    if not is_built():
+    # (another program is there already, however new the sources are)
+    if "SHEET_PROGRAM" not in os.environ and not is_built():
         return failed("the program isn't built, so it wasn't tested")
     loader = unittest.TestLoader()
     loader.testNamePatterns = [f"*{text}*"]
@@ -209,7 +214,7 @@ def main(words):
         tally = tally.and_also(released())
     if words[:1] != ["--wrong"]:
         # (the gate has built the tests of the crates)
-        reasons = (NO_BROWSER, NO_GIT, NO_TESTS) if words else (NO_BROWSER,)
+        reasons = (NO_BROKER, NO_BROWSER, NO_GIT, NO_TESTS) if words else (NO_BROKER, NO_BROWSER)
         tally = tally.and_also(program("".join(words[1:]), reasons))
     if not words:
         tally = tally.and_also(rows_of_proved())

@@ -148,6 +148,37 @@ static void of_sockets(void)
     holds("no socket", rattle_set_nonblocking(-1, true) == -1 && rattle_errno() == EBADF);
 }
 
+static void of_waits(void)
+{
+    enum { PAIRS = 3 };
+    int set = epoll_create1(EPOLL_CLOEXEC), ends[PAIRS][2];
+    struct ready found[PAIRS + 1];
+    memset(found, 0x55, sizeof found);
+    for (int i = 0; i < PAIRS; i++) {
+        socketpair(AF_UNIX, SOCK_STREAM, 0, ends[i]);
+        holds("one more to wait for", rattle_epoll_ctl(set, EPOLL_CTL_ADD, ends[i][0], EPOLLIN | EPOLLET, UINT64_MAX - i) == 0);
+    }
+    holds("nothing is ready", rattle_epoll_wait(set, found, PAIRS, 0) == 0);
+    for (int i = 0; i < PAIRS; i++)
+        holds("a byte is sent", write(ends[i][1], "x", 1) == 1);
+    holds("all are ready", rattle_epoll_wait(set, found, PAIRS + 1, -1) == PAIRS);
+    uint64_t sum = 0;
+    for (int i = 0; i < PAIRS; i++) {
+        holds("there is something to read", found[i].events == EPOLLIN);
+        sum += UINT64_MAX - found[i].data;
+    }
+    holds("each with its number", sum == 0 + 1 + 2);
+    holds("nothing is put behind them", found[PAIRS].data == 0x5555555555555555);
+    for (int i = 0; i < PAIRS; i++)
+        holds("one more byte is sent", write(ends[i][1], "x", 1) == 1);
+    holds("no more than there is room for", rattle_epoll_wait(set, found, 1, -1) == 1);
+    holds("the others come next", rattle_epoll_wait(set, found, PAIRS, -1) == PAIRS - 1);
+    holds("one less to wait for", rattle_epoll_ctl(set, EPOLL_CTL_DEL, ends[0][0], 0, 0) == 0);
+    holds("it isn't there", rattle_epoll_ctl(set, EPOLL_CTL_DEL, ends[0][0], 0, 0) == -1 && rattle_errno() == ENOENT);
+    holds("no room", rattle_epoll_wait(set, found, 0, 0) == -1 && rattle_errno() == EINVAL);
+    holds("no set", rattle_epoll_wait(-1, found, 1, 0) == -1 && rattle_errno() == EBADF);
+}
+
 int main(int count_of, char **words)
 {
     /* before anything else: what the process was started with, as the program asks for it */
@@ -164,6 +195,7 @@ int main(int count_of, char **words)
     of_growth(64);
     of_errors();
     of_sockets();
+    of_waits();
     puts("all hold");
     return 0;
 }

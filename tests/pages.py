@@ -36,6 +36,12 @@ def recipes(page, language):
     return pairs((TOP / page).read_text(), language)
 
 
+def indented(text, heading):
+    """The indented blocks below this heading of a page, up to the next one."""
+    section = re.search(rf"^{re.escape(heading)}$(.*?)(?=^#|\Z)", text, re.MULTILINE | re.DOTALL)[1]
+    return [re.sub("^    ", "", block, flags=re.MULTILINE) for block in re.findall(r"^(?:    .*\n)+", section, re.MULTILINE)]
+
+
 def unfenced(text):
     """A page's text without its fenced blocks and indented lines, and with a word in the place of each piece of code."""
     text = re.sub(r"^```.*?^```$", "", text, flags=re.MULTILINE | re.DOTALL)

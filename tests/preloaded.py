@@ -5,8 +5,14 @@ from pathlib import Path
 
 from program import LIMIT, TOP
 
-# The program that the launcher starts, without the launcher, whose own calls aren't meant.
-PROGRAM = Path(subprocess.run([TOP / "build"], stdout=subprocess.PIPE, check=True, text=True).stdout.strip())
+
+def launched():
+    """The path of the program that the launcher starts."""
+    return subprocess.run([TOP / "build"], stdout=subprocess.PIPE, check=True, text=True).stdout.strip()
+
+
+# The program without the launcher, whose own calls aren't meant.
+PROGRAM = Path(os.environ.get("SHEET_PROGRAM") or launched())
 
 
 def build(source, library):

@@ -14,12 +14,32 @@ SHEET = os.environ.get("SHEET_PROGRAM", str(TOP / "sheet"))
 # The longest wait for anything, in seconds.
 LIMIT = 60
 DEVICE_FAILED = b"err 20 device\n"
+
+
+def unusable(file, reason):
+    """What standard error gets of a file that can't be used: for a number of `errno` the system's text, else this one."""
+    text = f"{os.strerror(reason)} (os error {reason})" if isinstance(reason, int) else reason
+    return DEVICE_FAILED + lines(f"{file}: {text}")
+
+
+def silent(port):
+    """What standard error gets where nobody listens on this port."""
+    return DEVICE_FAILED + lines(f"port {port}: nobody listens on it; sheet serve --port {port} would")
+
+
+def taken(port):
+    """What standard error gets of a server whose port another program has."""
+    return DEVICE_FAILED + lines(f"port {port}: another program listens on it")
+
+
 # Why a test of the page is left out, which `./test` counts as skipped; any other skip counts as failed.
 NO_BROWSER = "there is no browser: apt-get install -y chromium"
 # .. and why a test may be left out that runs the tests of a crate.
 NO_TESTS = "the tests of the crates aren't built: rt ci"
 # .. and why a recipe may be.
 NO_GIT = "there is no git: apt-get install -y git"
+# .. and why one over a broker may be.
+NO_BROKER = "there is no broker: apt-get install -y mosquitto mosquitto-clients redis-server"
 
 
 class Ended(NamedTuple):

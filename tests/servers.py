@@ -17,6 +17,9 @@ HERE = "127.0.0.1"
 FIRST_PORT, BLOCK, BLOCKS = 10_000, 100, 180
 # The pause between two tries, in seconds.
 PAUSE = 0.01
+# The threads and files of a server that nobody is at: two threads beside the main one, for those who wait; besides the
+# standard streams and the port, two files by which the main thread sleeps, and three by which the others do.
+THREADS, FILES = 3, 9
 
 
 class Ports:

@@ -26,7 +26,13 @@ def limited(most):
 
 class FewFiles(ProgramTest):
     def test_it_goes_on_and_says_so_once(self):
-        most = 24
+        # (a connection has two files: the last one may be lacking for either)
+        for most in (24, 25):
+            with self.subTest(most=most):
+                self.is_crowded(most)
+
+    def is_crowded(self, most):
+        """A server that may have so many files goes on while more connections come than it has files for."""
         with serving(None, **limited(most)) as server:
             sessions = []
             for number in range(4):
@@ -81,12 +87,16 @@ class FewFiles(ProgramTest):
 
     def test_a_server_for_some_sessions_ends(self):
         library = shortages.library(self.folder())
-        # (while one waits, the server looks for others every few milliseconds)
-        with shortages.spoiling(library, ("a", 400, shortages.ALL, errno.EMFILE)) as (how, _):
+        most = 40
+        with shortages.spoiling(library, ("a", most, shortages.ALL, errno.EMFILE)) as (how, _):
             with serving(3, "--seats", "1", "--wait", "60", program=PROGRAM, **how) as server:
                 client, other = server.client(), server.client()
                 self.assertEqual(client.ask("set A1 1"), "ok 1")
                 other.send(b"get A1\n")
+                self.assertFalse(other.is_answered_within(1))
+                # who comes and leaves has it look for others
+                for _ in range(most):
+                    server.client().close()
                 self.assertEqual(other.told(), lines("err 21 seat"))
                 self.assertEqual(client.ask("get A1"), "val 1")
                 client.leave()

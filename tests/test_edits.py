@@ -59,6 +59,17 @@ class Edits(unittest.TestCase):
         self.assertEqual(found[0].texts, {"src/list.rt": "\nfive\n"})
 
 
+class Order(unittest.TestCase):
+    def test_many_mutants_over_much_text_begin(self):
+        with TemporaryDirectory(prefix="sheet-test-") as folder:
+            top = Path(folder)
+            for name, size in (("short", 10), ("long", 100), ("longer", 150)):
+                (top / "crates" / name / "src/deep").mkdir(parents=True)
+                (top / "crates" / name / "src/deep/lib.rt").write_text("x" * size)
+            chosen = {"longer": [1], "short": [1] * 30, "long": [1] * 2}
+            self.assertEqual(wrong.in_order(top, chosen), ["short", "long", "longer"])
+
+
 class Refused(unittest.TestCase):
     def crate(self):
         """A crate, no file of which is looked at."""

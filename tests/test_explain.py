@@ -15,23 +15,86 @@ from program import DEVICE_FAILED, LIMIT, SHEET, Ended, ProgramTest, lines, run
 from servers import free_port, serving
 
 FUNCTIONS = "SUM, MIN, MAX, COUNT, IF, MOD, QUOTIENT, ABS, AND, OR, NOT, TRUE, FALSE"
+# Invalid formulas that people write by habit, and what is told of each.
+FORMULAS = (
+    ("=A1+1", "A1 is written [.A1]"),
+    ("=$B$2", "$B$2 is written [.$B$2]"),
+    ("=2*cz1024", "cz1024 is written [.CZ1024]"),
+    ("=SUM(A1:A3)", "A1:A3 is written [.A1:.A3]"),
+    ("=sum(a1:B3)", "a1:B3 is written [.A1:.B3]"),
+    ("=SUM(A:A)", "a range has two cells, as [.A1:.A1024]"),
+    ("=[A1]+1", "a reference is written [.A1]"),
+    ("=[.a1]+1", "a reference is written [.A1]"),
+    ("=SUM([.A1:A3])", "a range is written [.A1:.A3]"),
+    ("=DA1", "there is no DA1: cells are A1 to CZ1024"),
+    ("=[.A1025]", "there is no A1025: cells are A1 to CZ1024"),
+    ("=[Sheet1.A1]", "there is one sheet: a reference is written [.A1]"),
+    ("=Sheet1!A1", "there is one sheet: a reference is written [.A1]"),
+    ("=[.A1:.A3]+1", "a range is an argument of SUM, MIN, MAX or COUNT and stands nowhere else"),
+    ("=ABS([.A1:.A3])", "a range is an argument of SUM, MIN, MAX or COUNT and stands nowhere else"),
+    ("=IF(1,2,3)", "arguments have ; between them, and numbers are whole"),
+    ('="yes"', "a formula has no texts"),
+    ("=12.5*2", "12.5: numbers are whole"),
+    ("=.5", ".5: numbers are whole"),
+    ("=1e5", "1e5: numbers are digits alone"),
+    ("=9223372036854775808", "9223372036854775808: numbers end at 9223372036854775807"),
+    ("=TRUE", "TRUE is written TRUE()"),
+    ("=false+1", "false is written FALSE()"),
+    ("=SUM", "SUM has its arguments in parentheses"),
+    ("=AVERAGE([.A1:.A3])", f"AVERAGE is no function; the functions are {FUNCTIONS}"),
+    ("=[.A1]/2", "/ is written QUOTIENT(a;b)"),
+    ("=1!=2", "!= is written <>"),
+    ("=2×3", "× is written *"),
+    ("=2^3", "a formula has no ^"),
+    ("=IF(1;;2)", "an argument is missing"),
+    ("=SUM(", "a ( isn't closed"),
+    ("=SUM(1))", "a ) closes nothing"),
+    ("=[.A1", "a [ isn't closed"),
+    ("=1+", "something is missing at its end"),
+    ("=", "something is missing at its end"),
+    ("=1 2", "a formula is written like =SUM([.A1:.A3])*2"),
+)
+# Entries that are kept as texts and look like something else, and what is told of each; nothing is told of the last.
+TEXTS = (
+    ("12.50", "12.50 is kept as a text: numbers are whole"),
+    ("1,200", "1,200 is kept as a text: numbers have no commas"),
+    (" 7", '" 7" is kept as a text: a blank stands before or after it'),
+    ("7 ", '"7 " is kept as a text: a blank stands before or after it'),
+    (" =1", '" =1" is kept as a text: a blank stands before or after it'),
+    ("$5", "$5 is kept as a text: numbers have no sign of a currency"),
+    ("-$5.20", "-$5.20 is kept as a text: numbers have no sign of a currency"),
+    ("5 €", "5 € is kept as a text: numbers have no sign of a currency"),
+    ("50%", "50% is kept as a text: numbers have no percent sign"),
+    ("1e5", "1e5 is kept as a text: numbers are digits alone"),
+    ("−5", "−5 is kept as a text: the minus sign is -"),
+    ("9223372036854775808",
+     "9223372036854775808 is kept as a text: numbers are -9223372036854775808 to 9223372036854775807"),
+    ("SUM([.A1:.A3])", "SUM([.A1:.A3]) is kept as a text: a formula begins with ="),
+    ("[.A1]*2", "[.A1]*2 is kept as a text: a formula begins with ="),
+    ("TRUE", "TRUE is kept as a text: truth values are written =TRUE() and =FALSE()"),
+    ("@Tally", "@Tally is kept as a text: @tally, @choice and of:= are in small letters"),
+    ("7", ""),
+    ("-7", ""),
+    ("=1", ""),
+    ("'12.50", ""),
+    ("@tally", ""),
+    ("apples", ""),
+    ("25.11.2026", ""),
+    ("v1.2", ""),
+    ("-", ""),
+    ("SUMMARY (all)", ""),
+    ("", ""),
+)
+# Entries that are refused for their length, the reply, and what is told of it.
+LENGTHS = (
+    ("x" * 71, "err 2 text", "71 bytes of at most 64"),
+    ("x" * 513, "err 4 too-long", "513 bytes of at most 512"),
+)
 # What people write by habit into a cell, the reply to it, and what is told of it.
 HABITS = (
-    ("=A1+1", "err 3 formula", "err 3 formula: A1 is written [.A1]"),
-    ("=SUM(A1:A3)", "err 3 formula", "err 3 formula: A1:A3 is written [.A1:.A3]"),
-    ("=IF(1,2,3)", "err 3 formula", "err 3 formula: arguments have ; between them, and numbers are whole"),
-    ('="yes"', "err 3 formula", "err 3 formula: a formula has no texts"),
-    ("=12.5*2", "err 3 formula", "err 3 formula: 12.5: numbers are whole"),
-    ("=TRUE", "err 3 formula", "err 3 formula: TRUE is written TRUE()"),
-    ("=AVERAGE([.A1:.A3])", "err 3 formula",
-     f"err 3 formula: AVERAGE is no function; the functions are {FUNCTIONS}"),
-    ("=[.A1]/2", "err 3 formula", "err 3 formula: / is written QUOTIENT(a;b)"),
-    ("x" * 71, "err 2 text", "err 2 text: 71 bytes of at most 64"),
-    ("12.50", "ok", "12.50 is kept as a text: numbers are whole"),
-    ("1,200", "ok", "1,200 is kept as a text: numbers have no commas"),
-    (" 7", "ok", '" 7" is kept as a text: a blank stands before or after it'),
-    ("$5", "ok", "$5 is kept as a text: numbers have no sign of a currency"),
-    ("7", "ok", ""), ("=[.A1]+1", "ok", ""), ("'12.50", "ok", ""), ("apples", "ok", ""),
+    *((entry, "err 3 formula", f"err 3 formula: {hint}") for entry, hint in FORMULAS),
+    *((entry, reply, f"{reply}: {hint}") for entry, reply, hint in LENGTHS),
+    *((entry, "ok", hint) for entry, hint in (*TEXTS, ("=[.A1]+1", ""))),
 )
 # Signs that people know from elsewhere, and what stands for each in a formula.
 SIGNS = (
@@ -73,6 +136,14 @@ class OfLines(ProgramTest):
         self.assertEqual(ended, Ended(0, lines(*replies), lines(*told)))
         # and nothing is told where nobody asks
         self.assertEqual(run("run", given=lines(*given)), Ended(0, lines(*replies)))
+
+    def test_the_form_of_each_verb(self):
+        verbs = ("get", "set", "add", "sub", "choose", "unchoose", "rows", "entry", "entries", "push", "merge", "pull",
+                 "wait")
+        ended = run("run", "--explain", given=lines(*verbs))
+        self.assertEqual((ended.status, ended.output), (0, lines(*["err 16 command"] * len(verbs))))
+        for number, (verb, told) in enumerate(zip(verbs, ended.error.decode().splitlines(), strict=True), 1):
+            self.assertTrue(told.startswith(f"line {number}: err 16 command: it is written {verb} <"), told)
 
     def test_signs_that_are_written_otherwise(self):
         told = [f"line {number}: err 3 formula: {sign} is written {meant}"
@@ -169,9 +240,9 @@ def words_with_port(port):
 
 class OfPorts(ProgramTest):
     def assert_told(self, words, told):
-        """These words end as a device that fails, and with `--explain` this line is told of it."""
-        self.assertEqual(run(*words), Ended(1, b"", DEVICE_FAILED))
-        self.assertEqual(run(*words, "--explain"), Ended(1, b"", DEVICE_FAILED + lines(told)))
+        """These words end as a device that fails, and this line is told of it, with `--explain` and without."""
+        for more in ((), ("--explain",)):
+            self.assertEqual(run(*words, *more), Ended(1, b"", DEVICE_FAILED + lines(told)))
 
     def test_a_port_that_another_program_has(self):
         with serving(None) as server:
@@ -198,7 +269,7 @@ class OfPorts(ProgramTest):
             for words in each:
                 with self.subTest(words=words, error=error), \
                         shortages.spoiling(library, (call, 1, shortages.ALL, error)) as (how, _):
-                    ran = subprocess.run([PROGRAM, *words, "--explain"], capture_output=True, timeout=LIMIT, **how)
+                    ran = subprocess.run([PROGRAM, *words], capture_output=True, timeout=LIMIT, **how)
                     self.assertEqual(Ended(ran.returncode, ran.stdout, ran.stderr),
                                      Ended(1, b"", DEVICE_FAILED + lines(told)))
 
@@ -254,6 +325,26 @@ class OfTables(ProgramTest):
                          "row 1, column B: 12.50 is kept as a text: numbers are whole",
                          'row 2, column A: " 7" is kept as a text: a blank stands before or after it',
                          "row 2, column B: $5 is kept as a text: numbers have no sign of a currency")
+
+    def test_texts_that_look_otherwise(self):
+        table = io.StringIO(newline="")
+        csv.writer(table).writerows([entry] for entry, _ in TEXTS)
+        ended = run("table", "--explain", given=table.getvalue().encode())
+        told = [f"row {number}, column A: {hint}" for number, (_, hint) in enumerate(TEXTS, 1) if hint]
+        self.assertEqual((ended.status, ended.error), (0, lines(*told)))
+
+    def test_lengths(self):
+        for entry, refusal, hint in LENGTHS:
+            self.assert_told([["1", entry]], 3, b"", f"row 1, column B: {refusal}: {hint}", refusal)
+
+    def test_nothing_is_told_after_the_first_refused_field(self):
+        self.assert_told([["1.5", ""], ["", "", "=A1"], ["1.5"]], 3, b"",
+                         "row 1, column A: 1.5 is kept as a text: numbers are whole",
+                         "row 2, column C: err 3 formula: A1 is written [.A1]", "err 3 formula")
+
+    def test_fields_without_hints(self):
+        self.assert_told([], 0, b"")
+        self.assert_told([["7", "=[.A1]"], ["'1.5", "apples"]], 0, b"7,7\n1.5,apples\n")
 
     def test_a_table_that_is_too_large(self):
         self.assert_told([["1"]] * 1025, 3, b"", "row 1025: err 18 csv: a table has at most 1024 records", "err 18 csv")

@@ -5,7 +5,7 @@ import subprocess
 import threading
 import time
 
-from program import DEVICE_FAILED, LIMIT, Ended, ProgramTest, lines, run, started
+from program import DEVICE_FAILED, LIMIT, Ended, ProgramTest, lines, run, silent, started
 from servers import HERE, free_port, serving
 from test_sync import UNEXPECTED, FakePeer, in_turn
 
@@ -69,7 +69,8 @@ class Peers(Following):
         self.assertEqual(ended, Ended(3, lines("push [1]"), lines("err 4 too-long")))
 
     def test_a_port_on_which_nothing_listens(self):
-        self.assertEqual(follow(free_port()), Ended(1, b"", DEVICE_FAILED))
+        port = free_port()
+        self.assertEqual(follow(port), Ended(1, b"", silent(port)))
 
     def test_a_peer_is_asked_nothing_while_it_waits(self):
         asked = []

@@ -1,4 +1,5 @@
-"""`sheet join`: what it asks of two replicas, how `--once` ends, and that it goes on whatever becomes of either."""
+"""`sheet join`: what it asks of two replicas, how `--once` ends, that it goes on whatever becomes of either, and what
+`--check` says of them."""
 import contextlib
 import os
 import select
@@ -11,7 +12,7 @@ import time
 
 import preloaded
 from preloaded import PROGRAM
-from program import DEVICE_FAILED, LIMIT, Ended, ProgramTest, lines, run, started
+from program import DEVICE_FAILED, LIMIT, Ended, ProgramTest, lines, run, silent, started
 from servers import HERE, comes_to, free_port, serving
 from test_sync import UNEXPECTED, FakePeer, in_turn
 
@@ -150,10 +151,10 @@ class Faults(Fakes):
                          [lines("err 99 \x1b[2J\a\x9b31m")])
 
     def test_a_port_on_which_nobody_listens(self):
-        peer = self.peer()
-        for ports in ((free_port(), peer.port), (peer.port, free_port())):
+        peer, port = self.peer(), free_port()
+        for ports in ((port, peer.port), (peer.port, port)):
             with self.subTest(ports=ports):
-                self.assertEqual(joined_once(*ports), Ended(1, b"", DEVICE_FAILED))
+                self.assertEqual(joined_once(*ports), Ended(1, b"", silent(port)))
 
     def test_a_server_without_a_free_slot(self):
         with serving(None) as free, serving(None, "--seats", "1", "--wait", "0") as full:
@@ -238,6 +239,185 @@ class Once(ProgramTest):
             self.assertEqual(server.client().ask("set A1 5"), "ok 1")
             self.assertEqual(joined_once(server.port, server.port), Ended(0, lines("joined")))
             self.assertEqual(versions(server), ["version 1"])
+
+
+def checked(first, second, *more, **files):
+    """How comparing two ports ended."""
+    return run(*join_words(first, second), "--check", *more, **files)
+
+
+def in_step(first, second):
+    """How comparing two ends that hold the same, at these versions."""
+    return Ended(0, lines(f"in step at {first} and {second}"))
+
+
+def differ(count, *names):
+    """How comparing two ends that differ at so many cells, the first of which have these names."""
+    return Ended(3, lines(" ".join(["differ", str(count), *names])))
+
+
+def cell_of(name, register="null", counts="[]", pairs="[]"):
+    """A cell of a delta line."""
+    return f'["{name}",{register},{counts},{pairs}]'
+
+
+def held(*cells):
+    """The lines that a peer is asked for which holds these cells, each with its reply."""
+    if not cells:
+        return {"pull 0 16": b"end 0\n"}
+    return {"pull 0 16": lines(f"delta 1 [{','.join(cells)}]"), "pull 1 16": b"end 1\n"}
+
+
+class Checked(Fakes):
+    """What `--check` asks of each, and says of both."""
+
+    def compared(self, first, second):
+        """How these peers were compared, both of which are done with it then."""
+        ended = checked(first.port, second.port)
+        for peer in (first, second):
+            peer.close()
+        return ended
+
+    def assert_found(self, found, first, second):
+        """Peers with these lines, each with its reply, are compared so, and asked just these lines."""
+        with self.subTest(first=first, second=second):
+            peers = [self.peer(*asked.values()) for asked in (first, second)]
+            self.assertEqual(self.compared(*peers), found)
+            self.assertEqual([peer.asked for peer in peers], [[*first], [*second]])
+
+    def assert_fails(self, ended, first, second):
+        """Comparing peers with these replies ends so, and none of them is asked but for what it has."""
+        with self.subTest(first=first, second=second):
+            peers = [self.peer(*replies) for replies in (first, second)]
+            self.assertEqual(self.compared(*peers), ended)
+            for peer in peers:
+                self.assertEqual([line for line in peer.asked if not line.startswith("pull ")], [])
+
+    def test_two_that_have_nothing(self):
+        self.assert_found(in_step(0, 0), held(), held())
+
+    def test_the_same_in_another_order_in_groups_and_again(self):
+        together = f"{SECOND[:-1]},{THIRD[1:]}"
+        first = {"pull 0 16": lines(f"delta 16 {FIRST}"), "pull 16 16": lines(f"delta 18 {together}"),
+                 "pull 18 16": b"end 18\n"}
+        second = {"pull 0 16": lines(f"delta 1 {THIRD}"), "pull 1 16": lines(f"delta 2 {FIRST}\r"),
+                  "pull 2 16": lines(f"delta 3 {SECOND}"), "pull 3 16": lines(f"delta 9 {FIRST}"),
+                  "pull 9 16": b"end 9\r\n"}
+        self.assert_found(in_step(18, 9), first, second)
+        self.assert_found(in_step(9, 18), second, first)
+
+    def test_one_change_apart(self):
+        second = {"pull 0 16": lines(f"delta 1 {FIRST}"), "pull 1 16": b"end 1\n"}
+        first = {**second, "pull 1 16": lines(f"delta 2 {SECOND}"), "pull 2 16": b"end 2\n"}
+        self.assert_found(differ(1, "A2"), first, second)
+        self.assert_found(differ(1, "A2"), second, first)
+
+    def test_each_part_of_a_cell_counts(self):
+        whole = {"register": '[7,1,"5"]', "counts": "[[1,3,1]]", "pairs": "[[5,1,1,0]]"}
+        others = {"register": ("null", '[7,2,"5"]', '[8,1,"5"]', '[7,1,"6"]'),
+                  "counts": ("[]", "[[1,3,2]]", "[[2,3,1]]", "[[1,3,1],[2,1,0]]"),
+                  "pairs": ("[]", "[[5,1,1,1]]", "[[6,1,1,0]]", "[[5,1,1,0],[5,1,2,0]]")}
+        one = cell_of("B7", **whole)
+        self.assert_found(in_step(1, 1), held(one), held(one))
+        for part, texts in others.items():
+            for text in texts:
+                self.assert_found(differ(1, "B7"), held(one), held(cell_of("B7", **{**whole, part: text})))
+
+    def test_the_parts_of_a_cell_may_come_apart(self):
+        whole, register = cell_of("B7", '[7,1,"5"]', "[[1,3,1]]", "[[5,1,1,0]]"), cell_of("B7", '[7,1,"5"]')
+        parts = {"pull 0 16": lines(f"delta 1 [{cell_of('B7', pairs='[[5,1,1,0]]')}]"),
+                 "pull 1 16": lines(f"delta 2 [{cell_of('B7', counts='[[1,3,1]]')}]"),
+                 "pull 2 16": lines(f"delta 3 [{cell_of('B7', counts='[[1,2,1]]')}]"),
+                 "pull 3 16": lines(f"delta 4 [{register}]"),
+                 "pull 4 16": b"end 4\n"}
+        self.assert_found(in_step(1, 4), held(whole), parts)
+
+    def test_the_first_twenty_are_named_row_by_row(self):
+        row = [f"{letter}1" for letter in "ABCDEFGHIJKLMNOPQRSTUVWXYZ"]
+        for count in (19, 20, 21, 26):
+            cells = [cell_of(name, '[1,1,"1"]') for name in row[:count]]
+            self.assert_found(differ(count, *row[:min(count, 20)]), held(*cells), held())
+            self.assert_found(differ(count, *row[:min(count, 20)]), held(), held(*cells))
+        first = [cell_of(name, '[1,1,"1"]') for name in ("CZ1", "A2", "CZ1024")]
+        second = [cell_of(name, '[1,1,"1"]') for name in ("A1", "A2", "B2")]
+        self.assert_found(differ(4, "A1", "CZ1", "B2", "CZ1024"), held(*first), held(*second))
+
+    def test_replies_that_are_not_due_and_peers_that_close(self):
+        for replies in ([b"hello\n"], [b"\n"], [b"ok 1\n"], [b"version 1\n"], [b"delta 1\n"], [b"delta 0 []\n"],
+                        [b"end 1\n"], [b"\xff\n"], [], [b"delta 1 [["], [lines(f"delta 1 {FIRST}")],
+                        [lines(f"delta 1 {FIRST}"), b"end 1"], [b"delta 1 " + b"x" * 262_208 + b"\n"]):
+            self.assert_fails(UNEXPECTED, replies, [])
+            self.assert_fails(UNEXPECTED, [b"end 0\n"], replies)
+
+    def test_lines_of_no_delta(self):
+        for line in ("[]", "{}", '[["A1",null,[],[]]]', '[["A1025",[1,1,"1"],[],[]]]', f"{FIRST} {FIRST}"):
+            self.assert_fails(UNEXPECTED, [lines(f"delta 1 {line}"), b"end 1\n"], [b"end 0\n"])
+            self.assert_fails(UNEXPECTED, [b"end 0\n"], [lines(f"delta 1 {line}"), b"end 1\n"])
+
+    def test_refusals_of_peers(self):
+        for text, told in (("err 17 version", "err 17 version"), ("err 99 \x1b[2J", r"err 99 \u{1b}[2J")):
+            ended = Ended(3, b"", lines(told))
+            self.assert_fails(ended, [lines(text)], [])
+            self.assert_fails(ended, [lines(f"delta 1 {FIRST}"), b"end 1\n"], [lines(text)])
+
+    def test_a_port_on_which_nobody_listens(self):
+        peer, port = self.peer(), free_port()
+        for ports in ((port, peer.port), (peer.port, port)):
+            with self.subTest(ports=ports):
+                self.assertEqual(checked(*ports), Ended(1, b"", silent(port)))
+
+    def test_a_server_without_a_free_slot(self):
+        with serving(None) as free, serving(None, "--seats", "1", "--wait", "0") as full:
+            self.assertEqual(full.client().ask("set A1 5"), "ok 1")
+            for first, second in ((free, full), (full, free)):
+                self.assertEqual(checked(first.port, second.port), Ended(3, b"", lines("err 21 seat")))
+
+    def test_an_output_that_fails(self):
+        with open("/dev/full", "wb") as full:
+            for cells in ([], [cell_of("A1", '[1,1,"1"]')]):
+                first, second = self.peer(*held(*cells).values()), self.peer(b"end 0\n")
+                self.assertEqual(checked(first.port, second.port, stdout=full), Ended(1, b"", DEVICE_FAILED))
+
+    def test_it_is_not_told_to_merge(self):
+        ended = checked(7001, 7002, "--once")
+        self.assertEqual((ended.status, ended.output), (2, b""))
+        self.assertIn(b"'--once' cannot be used with '--check'", ended.error)
+
+
+class Compared(ProgramTest):
+    """Servers that are compared."""
+
+    def test_servers_before_and_after_they_are_joined(self):
+        with serving(None) as first, serving(None, "--replica", "2") as second:
+            given = {first: ("set A1 apples", "set B1 @tally", "add B1 2", "set C1 @choice", "choose C1 5", "set D1 1"),
+                     second: ("set A1 apples", "set B1 @tally", "add B1 3", "set E1 2")}
+            for server, own in given.items():
+                client = server.client()
+                for count, line in enumerate(own, 1):
+                    self.assertEqual(client.ask(line), f"ok {count}")
+            # they show the same text at A1, which each of them wrote
+            for _ in range(2):
+                self.assertEqual(checked(first.port, second.port), differ(5, "A1", "B1", "C1", "D1", "E1"))
+            self.assertEqual(versions(first, second), ["version 6", "version 4"])
+            self.assertEqual(joined_once(first.port, second.port), Ended(0, lines("joined")))
+            self.assertEqual(versions(first, second), ["version 7", "version 5"])
+            self.assertEqual(checked(first.port, second.port), in_step(7, 5))
+            self.assertEqual(first.client().ask("add B1 1"), "ok 8")
+            self.assertEqual(checked(first.port, second.port), differ(1, "B1"))
+            self.assertEqual(versions(first, second), ["version 8", "version 5"])
+
+    def test_a_server_with_itself(self):
+        with serving(None) as server:
+            self.assertEqual(server.client().ask("set A1 5"), "ok 1")
+            self.assertEqual(checked(server.port, server.port), in_step(1, 1))
+
+    def test_all_cells_of_a_row_of_many_groups(self):
+        with serving(None) as first, serving(None, "--replica", "2") as second:
+            client = first.client()
+            for row in range(1, 101):
+                self.assertEqual(client.ask(f"set A{row} {row}"), f"ok {row}")
+            names = [f"A{row}" for row in range(1, 21)]
+            self.assertEqual(checked(first.port, second.port), differ(100, *names))
 
 
 class Joining:

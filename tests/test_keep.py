@@ -1,5 +1,6 @@
 """`run --keep FILE`: what the file has, what a start makes of it, and what it refuses."""
 import contextlib
+import errno
 import os
 import shutil
 import socket
@@ -9,7 +10,7 @@ import subprocess
 import peers
 from keeping import KeepingTest, replies_to, text_of, without_rights
 from preloaded import PROGRAM, before, build
-from program import DEVICE_FAILED, LIMIT, Ended, lines, run, started
+from program import LIMIT, Ended, lines, run, started, unusable
 
 EDITS = (
     "set A1 5", "set B1 =[.A1]*2", "set A2 it's \"tea\", \\n", "set A3 äöü 漢字", "set C1 @tally", "add C1 7",
@@ -151,7 +152,8 @@ class Meanwhile(KeepingTest):
         with self.halted("l") as ended:
             self.assertEqual(run("squash", "--keep", str(self.file)).status, 0)
             small = self.file.read_bytes()
-            self.assertEqual(ended(b"set A1 7\n"), Ended(1, b"", DEVICE_FAILED))
+            self.assertEqual(ended(b"set A1 7\n"),
+                             Ended(1, b"", unusable(self.file, "it was removed meanwhile")))
         self.assertEqual(self.file.read_bytes(), small)
         self.assertEqual(self.run_kept(b"set A1 7\n"), Ended(0, b"ok 2\n", self.opened(1)))
 
@@ -267,13 +269,13 @@ class Refuses(KeepingTest):
                       b"hello", FIRST.strip().encode(), b"\xff\xfe"):
             for rest in (b"", FIRST.encode()):
                 with self.subTest(first=first, rest=rest):
-                    told = lines("err 14 delta", f"line 1 of {self.file}")
+                    told = lines("err 14 delta", f"line 1 of {self.file}: it is no kept sheet")
                     self.assert_untouched(Ended(3, b"", told), first + b"\n" + rest)
 
     def test_a_file_without_a_line_that_is_no_beginning_of_the_first(self):
         for content in (b"hello", b"replica 1\r", b"\0" * 100, b"push [["):
             with self.subTest(content=content):
-                told = lines("err 14 delta", f"line 1 of {self.file}")
+                told = lines("err 14 delta", f"line 1 of {self.file}: it is no kept sheet")
                 self.assert_untouched(Ended(3, b"", told), content)
 
     def test_a_file_that_another_program_keeps(self):
@@ -295,10 +297,13 @@ class Refuses(KeepingTest):
         (self.place / "folder").mkdir()
         os.mkfifo(self.place / "pipe")
         (self.place / "dangling").symlink_to(self.place / "nothing" / "there")
-        for path in ("folder", "pipe", "dangling", "none/plan.lines", "", "/dev/null", "/dev/zero", "x" * 300):
+        other = "it is no regular file"
+        for path, reason in (("folder", errno.EISDIR), ("pipe", other), ("dangling", errno.ENOENT),
+                             ("none/plan.lines", errno.ENOENT), ("", errno.ENOENT), ("/dev/null", other),
+                             ("/dev/zero", other), ("x" * 300, errno.ENAMETOOLONG)):
             with self.subTest(path=path):
                 self.file = self.place / path if path else ""
-                self.assertEqual(self.run_kept(b"set A1 5\n"), Ended(1, b"", DEVICE_FAILED))
+                self.assertEqual(self.run_kept(b"set A1 5\n"), Ended(1, b"", unusable(self.file, reason)))
         self.assertFalse((self.place / "nothing").exists())
 
     def test_what_may_not_be_written(self):
@@ -310,7 +315,8 @@ class Refuses(KeepingTest):
         self.file.chmod(stat.S_IRUSR | stat.S_IRGRP | stat.S_IROTH)
         words = [program, "run", "--keep", str(self.file)]
         ran = subprocess.run(words, input=b"get A1\n", capture_output=True, timeout=LIMIT, **without_rights())
-        self.assertEqual(Ended(ran.returncode, ran.stdout, ran.stderr), Ended(1, b"", DEVICE_FAILED))
+        self.assertEqual(Ended(ran.returncode, ran.stdout, ran.stderr),
+                         Ended(1, b"", unusable(self.file, errno.EACCES)))
         self.assertEqual(self.file.read_bytes(), content)
 
     def test_other_commands_keep_nothing(self):

@@ -10,7 +10,7 @@ import peers
 from hunt import kept
 from keeping import ALL, KeepingTest, Spoilt, replies_to, session_of, sizes_limited, text_of
 from preloaded import PROGRAM
-from program import DEVICE_FAILED, LIMIT, Ended, lines, started
+from program import DEVICE_FAILED, LIMIT, Ended, lines, started, unusable
 from shortage import build, run_short
 
 EDITS = tuple(line for turn in range(1, 9) for line in (
@@ -92,7 +92,8 @@ class Failing(Spoilt):
                             # (all at once takes fewer of them)
                             continue
                         self.assertEqual(ended.status, 1)
-                        self.assertIn(ended.error, (DEVICE_FAILED, self.opened(0) + self.lost()))
+                        self.assertIn(ended.error, (DEVICE_FAILED, unusable(self.file, error),
+                                                    self.opened(0) + self.lost()))
                         answered.add(self.assert_acknowledged_is_kept(EDITS, ended, is_cut=True))
         # each change was once the last one that was answered, or none was
         self.assertEqual(answered, {*range(len(session_of(*EDITS).sheet.history))})
@@ -146,7 +147,8 @@ class Failing(Spoilt):
     def test_a_file_that_cannot_be_read(self):
         self.file.write_bytes(text_of(*EDITS))
         with self.spoiling("r", 1, ALL, errno.EIO) as (how, _):
-            self.assertEqual(self.run_kept(b"set A1 5\n", **how), Ended(1, b"", DEVICE_FAILED))
+            self.assertEqual(self.run_kept(b"set A1 5\n", **how),
+                             Ended(1, b"", unusable(self.file, errno.EIO)))
         self.assertEqual(self.file.read_bytes(), text_of(*EDITS))
 
     def test_an_output_that_fails(self):

@@ -16,6 +16,11 @@ MOST = 512
 # Within how many seconds a change is told, and within how many one that went away is noticed, on a machine that does
 # much else.
 SOON, NOTICED = 5, 5
+# Within how many seconds what comes at once comes, on the average.
+AT_ONCE = 0.12
+# The threads that a server has without a session, and the most turns of a processor that these have in three seconds
+# in which nothing changes.
+OWN_THREADS, MOST_TURNS = 3, 10
 
 
 class NewsTest(ProgramTest):
@@ -28,6 +33,8 @@ class NewsTest(ProgramTest):
             self.server = stack.enter_context(serving(None, *self.words, program=PROGRAM))
             self.addCleanup(stack.pop_all().close)
         self.port = self.server.port
+        process = Memory(self.server.session.pid)
+        self.assertTrue(comes_to(lambda: process.threads() == OWN_THREADS, NOTICED))
 
     def news(self, **how):
         """The news of the server, as the page opens them."""
@@ -41,9 +48,9 @@ class NewsTest(ProgramTest):
         self.addCleanup(opened.connection.close)
         return opened
 
-    def threads(self):
-        """How many threads the server has."""
-        return Memory(self.server.session.pid).threads()
+    def files(self):
+        """How many files the server has open."""
+        return Memory(self.server.session.pid).files()
 
     def is_silent(self, news, seconds):
         """Whether nothing comes for so long."""
@@ -160,7 +167,7 @@ class Refused(NewsTest):
 
 class Ends(NewsTest):
     def test_a_browser_that_goes_away(self):
-        before = self.threads()
+        before = self.files()
         ways = (lambda it: it.connection.close(), lambda it: it.connection.sendall(frame(CLOSE, b"\x03\xe9")),
                 lambda it: it.connection.sendall(frame(TEXT, b"x", is_masked=False)),
                 lambda it: it.connection.shutdown(1), lambda it: it.connection.sendall(frame(TEXT, b"\xff")))
@@ -168,10 +175,10 @@ class Ends(NewsTest):
             all_news = [self.news() for _ in range(5)]
             for news in all_news:
                 news.receive()
-            self.assertGreaterEqual(self.threads(), before + 5)
+            self.assertEqual(self.files(), before + 5)
             for news in all_news:
                 way(news)
-            self.assertTrue(comes_to(lambda: self.threads() == before, NOTICED))
+            self.assertTrue(comes_to(lambda: self.files() == before, NOTICED))
 
     def test_what_a_browser_says_is_passed_over(self):
         news, client = self.news(), self.server.client()
@@ -192,17 +199,25 @@ class Ends(NewsTest):
         self.assertEqual(news.receive_frame(), (PONG, False, b"still?"))
 
     def test_a_browser_that_never_reads_holds_nothing_up(self):
-        before = self.threads()
+        before = self.files()
         deaf = [self.news(room=2_000) for _ in range(20)]
-        client = self.server.client()
+        # some that even ask to be answered, and read no answer
+        for news in deaf[:5]:
+            news.connection.sendall(frame(PING, b"x" * 125) * 900)
+        hearing, client = self.news(), self.server.client()
+        self.assertEqual(hearing.receive(), "version 0")
         for number in range(1, 3_001):
             self.assertEqual(client.ask(f"set A1 {number}"), f"ok {number}")
+            begun = time.monotonic()
+            self.assertEqual(hearing.receive(), f"version {number}")
+            self.assertLess(time.monotonic() - begun, SOON)
         client.leave()
+        hearing.connection.close()
         self.assertEqual(len(deaf), 20)
         self.assertTrue(self.server.is_running())
         for news in deaf:
             news.connection.close()
-        self.assertTrue(comes_to(lambda: self.threads() == before, NOTICED))
+        self.assertTrue(comes_to(lambda: self.files() == before, NOTICED))
 
     def test_the_end_of_the_server(self):
         for words in ((), ("--keep", str(self.folder() / "kept.lines"))):
@@ -220,6 +235,31 @@ class Ends(NewsTest):
                 self.assertLess(time.monotonic() - begun, 1 + NOTICED)
                 for it in news:
                     self.assertIn(it.closing(), ((1001, "the server ends"), (None, "")))
+
+    def test_the_end_of_the_server_is_told_at_once(self):
+        taken = 0
+        for _ in range(5):
+            with serving(1) as server:
+                self.port = server.port
+                news = self.news()
+                self.assertEqual(news.receive(), "version 0")
+                client = server.client()
+                self.assertEqual(client.ask("set A1 5"), "ok 1")
+                self.assertEqual(news.receive(), "version 1")
+                begun = time.monotonic()
+                client.leave()
+                self.assertEqual(news.closing(), (1001, "the server ends"))
+                taken += time.monotonic() - begun
+        self.assertLess(taken, 5 * AT_ONCE)
+
+    def test_one_that_floods_is_ended(self):
+        news, other = self.news(), self.news()
+        self.assertEqual([it.receive() for it in (news, other)], ["version 0"] * 2)
+        with contextlib.suppress(OSError):
+            for _ in range(100):
+                news.connection.sendall(frame(TEXT, b"x") * 10_000)
+        self.assertEqual(self.server.client().ask("set A1 1"), "ok 1")
+        self.assertEqual(other.receive(), "version 1")
 
     def test_where_no_thread_can_be_started_it_is_refused(self):
         def bound():
@@ -241,13 +281,21 @@ class Cost(NewsTest):
         all_news = [self.news() for _ in range(100)]
         for news in all_news:
             news.receive()
-        before, begun = self.processor_time(), time.monotonic()
+        server = Memory(self.server.session.pid)
+        self.assertTrue(comes_to(lambda: server.threads() == OWN_THREADS, NOTICED))
+        before = server.turns()
         time.sleep(3)
-        part = (self.processor_time() - before) / (time.monotonic() - begun)
-        self.assertLess(part, 0.1)
+        self.assertLessEqual(server.turns() - before, MOST_TURNS)
 
-    def processor_time(self):
-        """The seconds of processor time that the server has taken."""
-        with open(f"/proc/{self.server.session.pid}/stat") as stat:
-            fields = stat.read().rsplit(")", 1)[1].split()
-        return (int(fields[11]) + int(fields[12])) / 100
+    def test_a_change_wakes_no_thread_for_each(self):
+        client, all_news = self.server.client(), [self.news() for _ in range(100)]
+        for news in all_news:
+            news.receive()
+        server, count = Memory(self.server.session.pid), 20
+        self.assertTrue(comes_to(lambda: server.threads() == OWN_THREADS + 1, NOTICED))
+        self.assertEqual(client.ask("get A1"), "val ")
+        before = server.turns()
+        for number in range(1, count + 1):
+            self.assertEqual(client.ask(f"set A1 {number}"), f"ok {number}")
+            self.assertEqual({it.receive() for it in all_news}, {f"version {number}"})
+        self.assertLess(server.turns() - before, count * len(all_news) / 2)

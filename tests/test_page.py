@@ -19,7 +19,7 @@ from browser_socket import (
 from hunt import shortages
 from preloaded import PROGRAM
 from program import LIMIT, TOP, Ended, ProgramTest, lines, run
-from servers import Client, comes_to, free_port, serving
+from servers import FILES, THREADS, Client, comes_to, free_port, serving
 from sizes import LONGEST_LINE
 
 KEY = "dGhlIHNhbXBsZSBub25jZQ=="
@@ -573,7 +573,7 @@ class Ends(ProgramTest):
             folder = Path(f"/proc/{server.session.pid}")
 
             def has_settled():
-                return len(list((folder / "task").iterdir())) == 1 and len(list((folder / "fd").iterdir())) <= 4
+                return [len(list((folder / of).iterdir())) for of in ("task", "fd")] == [THREADS, FILES]
 
             def visit(count):
                 for number in range(count):

@@ -4,6 +4,12 @@ import unittest
 from browser import CONTROL, SHIFT
 from browser_page import BrowserTest
 
+# Has an undo come a second late, when one types already.
+LATE_UNDO = """takeBack = (old => async (...given) => {
+  await new Promise(done => setTimeout(done, 1000));
+  return old(...given);
+})(takeBack), 1"""
+
 
 class Moves(BrowserTest):
     def assert_at(self, page, cell):
@@ -157,6 +163,7 @@ class Typing(BrowserTest):
         page.key("Enter")
         page.wait_for("document.getElementById('undo').disabled", False)
         page.key("ArrowDown")
+        page.value(LATE_UNDO)
         page.key("z", CONTROL)
         page.type("seven")
         page.key("Enter")

@@ -7,6 +7,7 @@ from program import TOP
 
 # The greatest number of words of each page.
 WORDS = {
+    "CHANGELOG.md": 1500,
     "CONTRIBUTING.md": 3000,
     "README.md": 900,
     "bench/README.md": 100,
@@ -20,8 +21,6 @@ WORDS = {
     "docs/TESTING.md": 2000,
     "docs/USING.md": 3000,
 }
-# Pages that are still to be shortened: only their links and the names of files are checked.
-UNFINISHED = {"CHANGELOG.md"}
 # What no page says: besides turns that readers stumble over, words that the field has others for.
 NEVER = (
     *TURNS, "were told", "who have", "lent", "hand(?:s|ed|ing)? out", "handing on", "lack of memory", "onlookers?",
@@ -89,9 +88,8 @@ class Pages(unittest.TestCase):
             with self.subTest(name=name):
                 self.assertEqual(faults(name, texts[name]), [])
 
-    def test_each_page_is_finished_or_listed(self):
-        self.assertEqual(set(pages()), {*WORDS, *UNFINISHED})
-        self.assertFalse(UNFINISHED.intersection(WORDS))
+    def test_each_page_has_a_length(self):
+        self.assertEqual(set(pages()), set(WORDS))
 
     def test_no_page_is_longer_than_it_may_be(self):
         texts = pages()

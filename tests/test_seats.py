@@ -10,7 +10,7 @@ from browser_socket import Ended as ClosedSocket
 from browser_socket import WebSocket, answer, request
 from preloaded import PROGRAM
 from program import LIMIT, Ended, ProgramTest, lines
-from servers import Client, comes_to, serving
+from servers import FILES, THREADS, Client, comes_to, serving
 
 NO_SEAT = lines("err 21 seat")
 # How many connections may wait for a slot, and how many may have sent nothing yet (`docs/FORMATS.md`).
@@ -41,6 +41,12 @@ class Memory:
     def files(self):
         """How many files it has open."""
         return len(list((self.folder / "fd").iterdir()))
+
+    def turns(self):
+        """How often its threads were given a processor."""
+        rows = [row for task in (self.folder / "task").iterdir()
+                for row in (task / "status").read_text().splitlines() if "ctxt_switches" in row]
+        return sum(int(row.split()[1]) for row in rows)
 
 
 def beside(task, count):
@@ -568,8 +574,8 @@ class Many(ProgramTest):
                 return play
 
             def has_settled():
-                """Whether no session is left: only the listener's thread, and its file beside the standard ones."""
-                return process.threads() == 1 and process.files() <= 3 + 1
+                """Whether no session is left."""
+                return (process.threads(), process.files()) == (THREADS, FILES)
 
             beside(sessions(first, "get B1", "set A1 1"), clients)
             self.assertTrue(comes_to(has_settled))

@@ -9,8 +9,8 @@ import time
 
 from hunt import shortages
 from preloaded import PROGRAM
-from program import DEVICE_FAILED, LIMIT, Ended, ProgramTest, lines, run
-from servers import HERE, PAUSE, comes_to, free_port, serving, sync
+from program import DEVICE_FAILED, LIMIT, Ended, ProgramTest, lines, run, taken
+from servers import FILES, HERE, PAUSE, comes_to, free_port, serving, sync
 from sizes import COLUMNS, name, pushes
 
 
@@ -433,7 +433,7 @@ class Ends(ProgramTest):
     def test_a_port_that_is_taken(self):
         with socket.create_server((HERE, 0)) as listener:
             port = str(listener.getsockname()[1])
-            self.assertEqual(run("serve", "--port", port, "--sessions", "1"), Ended(1, b"", DEVICE_FAILED))
+            self.assertEqual(run("serve", "--port", port, "--sessions", "1"), Ended(1, b"", taken(port)))
 
     def test_an_output_that_fails(self):
         with open("/dev/full", "wb") as full:
@@ -483,7 +483,7 @@ class Ends(ProgramTest):
 
     def test_a_connection_that_cannot_be_accepted(self):
         # a few more than the files of a server with one session
-        most = 7
+        most = FILES + 3
 
         def bound():
             resource.setrlimit(resource.RLIMIT_NOFILE, (most, most))
@@ -504,7 +504,7 @@ class Ends(ProgramTest):
     def test_a_call_for_a_connection_that_is_interrupted_or_whose_client_has_gone_is_made_again(self):
         library = shortages.library(self.folder())
         for error in (errno.EINTR, errno.ECONNABORTED):
-            # (the call for the first connection waits for it, the later ones don't)
+            # (a call that finds no connection, and one that may)
             for first in (1, 3):
                 fault = ("a", first, first + 2, error)
                 with self.subTest(fault=fault), shortages.spoiling(library, fault) as (how, counts):
@@ -518,12 +518,16 @@ class Ends(ProgramTest):
 
     def test_where_no_more_can_be_accepted_who_waits_is_told_so_at_once(self):
         library = shortages.library(self.folder())
-        # (while one waits, the server looks for others every few milliseconds)
-        with shortages.spoiling(library, ("a", 400, shortages.ALL, errno.ENOBUFS)) as (how, _):
+        most = 40
+        with shortages.spoiling(library, ("a", most, shortages.ALL, errno.ENOBUFS)) as (how, _):
             with serving(None, "--seats", "1", "--wait", "60", program=PROGRAM, **how) as server:
                 client, other, silent = (server.client() for _ in range(3))
                 self.assertEqual(client.ask("get A1"), "val ")
                 other.send(b"get A1\n")
+                self.assertFalse(other.is_answered_within(1))
+                # who comes and leaves has it look for others
+                for _ in range(most):
+                    server.client().close()
                 self.assertEqual((other.told(), silent.told()), (lines("err 21 seat"), b""))
                 # the session that was begun goes on to its end
                 self.assertEqual(client.ask("set A1 5"), "ok 1")

@@ -8,7 +8,7 @@ import socket
 import subprocess
 
 from pages import functions, recipes
-from program import LIMIT, NO_GIT, SHEET, TOP, Ended, ProgramTest, lines, run, started
+from program import LIMIT, NO_GIT, SHEET, TOP, Ended, ProgramTest, lines, run, started, taken
 from servers import HERE, free_port
 from sizes import COLUMNS, LONGEST_DELTA, name
 
@@ -77,7 +77,7 @@ class Recipes(Pasting):
             for commands in starting:
                 with self.subTest(commands=commands):
                     ended = self.paste(commands.replace("7001", port).replace("7002", str(free_port())))
-                    self.assertEqual(ended, Ended(1, b"", b"err 20 device\n"))
+                    self.assertEqual(ended, Ended(1, b"", taken(port)))
             listener.setblocking(False)
             with self.assertRaises(BlockingIOError):
                 listener.accept()
@@ -209,21 +209,23 @@ class GoingBack(Pasting):
     def test_it_has_the_first_100_changes_and_other_replicas_begin_with_them(self):
         part = re.search(r"^\*\*To go back\*\*.*?^#", PAGE, re.MULTILINE | re.DOTALL)[0]
         commands = re.findall(r"^    (.*)$", part, re.MULTILINE)
-        self.assertEqual(len(commands), 2)
+        self.assertEqual(len(commands), 3)
         made = [f"set A{row} {row}" for row in range(1, 100)] + ["set A1 kept"]
         later = [self.HOSTILE, "set B1 later", "set A2 changed"]
         self.kept("team.lines", *made, *later)
         self.assertEqual(self.kept("team.lines", "set A1 kept")[0], ["err 13 clock-full"])
         before = (self.place / "team.lines").read_bytes()
-        # the first one makes the file of replica 1, and the second one that of replica 2
-        self.assertEqual(self.paste("\n".join(commands)), Ended(0))
+        # the first two make files of replica 1, and the last one a file of replica 2
+        told = lines("squash: left out 3 of 103 lines", "squash: left out parts of 1 cells")
+        self.assertEqual(self.paste("\n".join(commands)), Ended(0, b"", told))
         self.assertEqual((self.place / "team.lines").read_bytes(), before)
-        for replica, file in enumerate(("early.lines", "home.lines"), 1):
+        for replica, file, first in ((1, "early.lines", ["kept,", "2,"]), (2, "home.lines", ["kept,", "2,"]),
+                                     (1, "others.lines", ["kept,later", "changed,"])):
             with self.subTest(file=file):
                 asked = ("rows A1:B3", f"set C{replica} 1", "set A1 again")
                 replies, told = self.kept(file, *asked, replica=replica)
-                self.assertEqual(told, f"opened {self.place / file}, 100 changes\n")
-                self.assertEqual(replies, ["rows 3", "kept,", "2,", "3,", "ok 101", "ok 102"])
+                self.assertEqual(told, f"opened {self.place / file}, 1 changes\n")
+                self.assertEqual(replies, ["rows 3", *first, "3,", "ok 2", "ok 3"])
 
     def test_another_replica_would_bring_the_later_changes_back(self):
         ours, theirs = free_port(), free_port()

@@ -36,8 +36,7 @@ KNOWN = {
     "ps_index/src/column.rt": {
         ("if self.spans.len() >= u32::MAX as usize {", "return Err(Refusal::Memory);"): "more spans than a number counts"},
     "ps_keep/src/file.rt": {
-        ("Ok(_) => Ok(FoundFile { file, bytes }),",
-         "Err(error) if error.kind() == ErrorKind::OutOfMemory => Err(FileFault::Memory),"): "the system's word"},
+        ("if error.kind() == ErrorKind::OutOfMemory {", "FileFault::Memory"): "the system's word"},
     "ps_kept/src/fault.rt": {
         ("fn from(_error: AllocError) -> KeepFault {", "KeepFault::Memory"): "the conversion of the allocator's error"},
     "ps_peers/src/asking.rt": {

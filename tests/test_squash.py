@@ -2,6 +2,7 @@
 
 What the lines hold together, and the text of each line, comes from the plain model of `hunt/deltas.py`.
 """
+import errno
 import os
 import random
 import resource
@@ -11,8 +12,8 @@ import subprocess
 import time
 
 import peers
-from hunt.deltas import delta_line, joined_deltas, read_delta
-from program import DEVICE_FAILED, LIMIT, Ended, ProgramTest, lines, run, started
+from hunt.deltas import State, delta_line, joined_deltas, read_delta
+from program import DEVICE_FAILED, LIMIT, Ended, ProgramTest, lines, run, started, unusable
 from sizes import COLUMNS, LONGEST_DELTA, LONGEST_LINE, name, pushes
 
 SEED = 39
@@ -41,6 +42,33 @@ def squashed(*texts):
     """What `squash` is to write for these delta lines."""
     state = joined_deltas([read_delta(text) for text in texts])
     return b"".join(b"push " + delta_line(line) + b"\n" for line in grouped(state))
+
+
+def without(replica, delta):
+    """The delta without what this replica assigned, counted and chose."""
+    kept = {}
+    for cell, state in delta.items():
+        register = () if state.register and state.register[1] == replica else state.register
+        counts = {other: count for other, count in state.counts.items() if other != replica}
+        pairs = {pair: mark for pair, mark in state.pairs.items() if pair[1] != replica}
+        if register or counts or pairs:
+            kept[cell] = State(register, counts, pairs)
+    return kept
+
+
+def in_part(texts, until=None, replica=None):
+    """How `squash` is to end with these options, for these delta lines."""
+    deltas, told = [read_delta(text) for text in texts], []
+    if until is not None:
+        told.append(f"squash: left out {max(len(texts) - until, 0)} of {len(texts)} lines")
+        deltas = deltas[:until]
+    if replica is not None:
+        rest = [without(replica, delta) for delta in deltas]
+        lost = {cell for delta, kept in zip(deltas, rest) for cell in delta if delta[cell] != kept.get(cell)}
+        told.append(f"squash: left out parts of {len(lost)} cells")
+        deltas = rest
+    text = b"".join(b"push " + delta_line(line) + b"\n" for line in grouped(joined_deltas(deltas)))
+    return Ended(0, text, lines(*told))
 
 
 def chosen(replicas, sequences, options):
@@ -144,6 +172,15 @@ class Squash(ProgramTest):
             again = run("run", "--replica", "7", "--keep", str(path), given=looks)
             self.assertEqual((again.status, again.output.split(b"replica ", 1)[1]), (0, shown))
 
+    def test_lines_of_several_replicas(self):
+        """With `push` and without, a counter of two, a pair that is removed, a later content; worked by hand."""
+        given = (b'[["A1",[1,2,"@tally"],[[1,5,0]],[]]]\r\n\npush [["A1",null,[[1,3,2],[4,1,0]],[]]]\n'
+                 b'[["B1",null,[],[[7,1,1,0]]]]\npush [["B1",null,[],[[7,1,1,1]]],["C1",[2,1,"6"],[],[]]]\n'
+                 b'[["C1",[1,9,"5"],[],[]]]')
+        due = (b'push [["A1",[1,2,"@tally"],[[1,5,2],[4,1,0]],[]],["B1",null,[],[[7,1,1,1]]],'
+               b'["C1",[2,1,"6"],[],[]]]\n')
+        self.assert_squashed(given, due)
+
     def test_nothing_says_nothing(self):
         for given in (b"", b"\n", b"\r\n\n", b"\r"):
             with self.subTest(given=given):
@@ -218,6 +255,75 @@ class Squash(ProgramTest):
         begin = time.monotonic()
         self.assertEqual(run("squash", given=b"".join(b"push " + text + b"\n" for text in texts)), Ended(0, wanted))
         self.assertLess(time.monotonic() - begin, LONGEST)
+
+
+class InPart(ProgramTest):
+    """`squash --until N` and `--without R`: what they take, and what they say is lost."""
+
+    FIRST, HOSTILE = '[["A1",[1,1,"5"],[],[]]]', '[["A1",[9007199254740991,7,"\'gone"],[],[]]]'
+
+    def assert_in_part(self, given, texts, **asked):
+        """`squash` with these options takes that part of these delta lines."""
+        words = [word for name, option in (("until", "--until"), ("replica", "--without")) if name in asked
+                 for word in (option, str(asked[name]))]
+        self.assertEqual(run("squash", *words, given=given), in_part(texts, **asked))
+
+    def test_the_lines_that_edits_make(self):
+        """By chance, of three replicas, mixed: the first lines, those of two replicas, and both."""
+        chance = random.Random(SEED)
+        texts = [text for replica in (1, 2, 9) for text in Squash.made(self, chance, replica, 40)]
+        chance.shuffle(texts)
+        # (what is no change line isn't counted)
+        given = b"".join(chance.choice((b"", b"\n")) + b"push " + text + b"\n" for text in texts)
+        for until in (1, 2, len(texts) // 2, len(texts) - 1, len(texts), len(texts) + 1, 1_000_000_000):
+            with self.subTest(until=until):
+                self.assert_in_part(given, texts, until=until)
+        for replica in (1, 2, 3, 9):
+            with self.subTest(replica=replica):
+                self.assert_in_part(given, texts, replica=replica)
+                self.assert_in_part(given, texts, until=len(texts) // 2, replica=replica)
+
+    def test_a_cell_is_usable_again(self):
+        """A line set it to its last time: before that line, and without that replica, it can be set."""
+        given = lines(*[f"push {text}" for text in (self.FIRST, self.HOSTILE, '[["B1",[1,1,"6"],[],[]]]')])
+        looks = lines("rows A1:B1", "set A1 8")
+        for words, shown in ((("--until", "1"), b"5,"), (("--without", "7"), b"5,6")):
+            with self.subTest(words=words):
+                small = run("squash", *words, given=given).output
+                self.assertEqual(run("run", given=small + looks).output.split(b"\n", 1)[1],
+                                 b"rows 1\n" + shown + b"\nok 2\n")
+
+    def test_what_only_joins_keep(self):
+        """Of the counts and pairs of one line those of the others stay, and who took a pair out isn't known."""
+        text = '[["A1",[1,2,"@tally"],[[1,5,0],[2,3,1]],[[7,1,1,1],[7,2,1,0],[8,2,2,1]]],["B1",[3,2,"6"],[],[]]]'
+        self.assertEqual(run("squash", "--without", "2", given=text.encode()),
+                         Ended(0, lines('push [["A1",null,[[1,5,0]],[[7,1,1,1]]]]'), lines("squash: left out parts of 2 cells")))
+        self.assertEqual(run("squash", "--without", "1", given=b'[["B1",[3,1,"6"],[],[]]]'),
+                         Ended(0, b"", lines("squash: left out parts of 1 cells")))
+
+    def test_the_first_line_of_a_kept_file(self):
+        """It stays, whichever replica is left out, and is no change line."""
+        given = lines("replica 7", f"push {self.HOSTILE}", f"push {self.FIRST}")
+        self.assertEqual(run("squash", "--until", "1", given=given),
+                         Ended(0, lines("replica 7", f"push {self.HOSTILE}"), lines("squash: left out 1 of 2 lines")))
+        self.assertEqual(run("squash", "--without", "7", given=given),
+                         Ended(0, lines("replica 7", f"push {self.FIRST}"), lines("squash: left out parts of 1 cells")))
+
+    def test_a_faulty_line_after_them(self):
+        """It is refused by its number all the same."""
+        self.assertEqual(run("squash", "--until", "1", given=lines(f"push {self.FIRST}", "push []")),
+                         Ended(3, b"", REFUSED % 2))
+
+    def test_a_file_in_its_place(self):
+        """Both are refused with status 2, and the file stays."""
+        file = self.folder() / "plan.lines"
+        content = lines("replica 1", f"push {self.FIRST}", f"push {self.HOSTILE}")
+        file.write_bytes(content)
+        for words in (("--until", "1"), ("--without", "7"), ("--until", "1", "--without", "7")):
+            with self.subTest(words=words):
+                ended = run("squash", "--keep", str(file), *words)
+                self.assertEqual((ended.status, ended.output, file.read_bytes()), (2, b"", content))
+                self.assertIn(b"write a new file", ended.error)
 
 
 # What is beside a kept file while it is squashed.
@@ -324,13 +430,14 @@ class InPlace(ProgramTest):
                 # (which a start takes, and no law says that it is read as the line without it)
                 (first + push[:-1] + b"\r\n", 2)):
             with self.subTest(content=content):
-                self.assert_untouched(content, Ended(3, b"", lines("err 14 delta", f"line {number} of {self.file}")))
+                none = ": it is no kept sheet" if number == 1 else ""
+                self.assert_untouched(content, Ended(3, b"", lines("err 14 delta", f"line {number} of {self.file}{none}")))
 
     def test_what_is_no_file(self):
-        self.assertEqual(self.squash(), Ended(1, b"", DEVICE_FAILED))
+        self.assertEqual(self.squash(), Ended(1, b"", unusable(self.file, errno.ENOENT)))
         self.assertEqual(list(self.place.iterdir()), [])
         self.file.mkdir()
-        self.assertEqual(self.squash(), Ended(1, b"", DEVICE_FAILED))
+        self.assertEqual(self.squash(), Ended(1, b"", unusable(self.file, errno.EISDIR)))
         self.assertEqual(list(self.file.iterdir()), [])
 
     def test_a_file_that_another_program_keeps(self):

@@ -4,10 +4,15 @@ from pathlib import Path
 from tempfile import TemporaryDirectory
 
 from program import Ended, ProgramTest, lines, run
-from servers import serving
+from preloaded import PROGRAM
+from servers import comes_to, serving
+from test_seats import Memory
 
 # The longest wait, in seconds, what is surely less, and for how long it is looked whether a wait goes on.
 LONGEST, SOON, LOOK = 25, 10, 0.4
+# For how many seconds it is looked what waits cost, and the most turns of a processor that a server has meanwhile,
+# whoever waits.
+QUIET, MOST_TURNS = 3, 10
 
 
 class Waits(ProgramTest):
@@ -103,6 +108,65 @@ class Waits(ProgramTest):
                 self.assertEqual(reader.leave(), b"")
             self.assertEqual(writer.leave(), b"")
 
+    def test_those_who_wait_take_no_turn_of_a_processor(self):
+        with serving(None, program=PROGRAM) as server:
+            process, readers = Memory(server.session.pid), [server.client() for _ in range(20)]
+            for reader in readers:
+                # one before it, so that each has its slot
+                self.assertEqual(reader.ask("get A1"), "val ")
+                reader.send(b"wait 0\n")
+            self.assertFalse(readers[-1].is_answered_within(LOOK))
+            before = process.turns()
+            time.sleep(QUIET)
+            self.assertLessEqual(process.turns() - before, MOST_TURNS)
+            # and no file or thread is left of a wait
+            threads, files = process.threads(), process.files()
+            self.assertEqual(server.client().ask("set A1 1"), "ok 1")
+            for reader in readers:
+                self.answers_soon(reader, "version 1")
+                self.assertEqual(reader.ask("wait 0"), "version 1")
+            self.assertTrue(comes_to(lambda: (process.threads(), process.files()) == (threads + 1, files + 1)))
+
+    def test_a_server_at_which_nothing_happens_takes_no_turn_of_a_processor(self):
+        for kept in (False, True):
+            with self.subTest(kept=kept), TemporaryDirectory() as room:
+                words = ("--keep", str(Path(room) / "kept")) if kept else ()
+                with serving(None, "--seats", "1", "--wait", "60", *words, program=PROGRAM) as server:
+                    # one has the slot, one waits for it, and one hasn't said anything yet
+                    sitting, late, _ = server.client(), server.client(), server.client()
+                    self.assertEqual(sitting.ask("get A1"), "val ")
+                    late.send(b"get A1\n")
+                    self.assertFalse(late.is_answered_within(LOOK))
+                    process = Memory(server.session.pid)
+                    before = process.turns()
+                    time.sleep(QUIET)
+                    self.assertLessEqual(process.turns() - before, MOST_TURNS)
+                    self.assertEqual(sitting.leave(), b"")
+                    self.answers_soon(late, "val ")
+                    self.assertEqual(late.leave(), b"")
+
+    def test_one_that_vanishes_leaves_its_slot_within_a_second(self):
+        for way in ("close", "reset", "stop_sending"):
+            with self.subTest(way=way), serving(None, "--seats", "1", "--wait", "1") as server:
+                for number in range(3):
+                    client = server.client()
+                    self.assertEqual(client.ask(f"set A1 {number}"), f"ok {number + 1}")
+                    client.send(lines(f"wait {number + 1}"))
+                    self.assertFalse(client.is_answered_within(LOOK))
+                    getattr(client, way)()
+
+    def test_bytes_of_before_end_no_wait(self):
+        with serving(2) as server:
+            reader, writer = server.client(), server.client()
+            for number in range(1, 40):
+                # the wait begins while bytes that were just read may still be reported
+                reader.send(lines("get A1", f"wait {number - 1}"))
+                self.assertEqual(reader.reply(), f"val {number - 1 or ''}")
+                self.assertFalse(reader.is_answered_within(0.02))
+                self.assertEqual(writer.ask(f"set A1 {number}"), f"ok {number}")
+                self.answers_soon(reader, f"version {number}")
+            self.assertEqual((reader.leave(), writer.leave()), (b"", b""))
+
     def test_it_ends_by_itself(self):
         with serving(1) as server:
             client = server.client()
@@ -111,3 +175,18 @@ class Waits(ProgramTest):
             self.assertEqual(client.reply(), "version 0")
             self.assertGreater(time.monotonic() - begun, LONGEST - 1)
             self.assertEqual(client.leave(), b"")
+
+    def test_a_server_that_ends_ends_it(self):
+        # it ends by itself, since the file is gone in which it keeps the changes
+        with TemporaryDirectory() as room, serving(None, "--keep", str(Path(room) / "kept")) as server:
+            waiting, writer = [server.client() for _ in range(3)], server.client()
+            for client in waiting:
+                client.send(b"wait 0\n")
+                self.assertFalse(client.is_answered_within(LOOK))
+            (Path(room) / "kept").unlink()
+            begun = time.monotonic()
+            writer.send(b"set A1 1\n")
+            self.assertEqual(server.ended().status, 1)
+            self.assertLess(time.monotonic() - begun, SOON)
+            # what isn't kept is told nobody
+            self.assertEqual([client.rest() for client in (*waiting, writer)], [b""] * 4)

@@ -34,6 +34,9 @@ class Whole(ProgramTest):
         self.use_wrong("3, 0")
         self.use_comparison("None")
         self.use_test("self.assertEqual(1, 1)")
+        self.linked = self.top / "crates/sheet/out/sheet"
+        self.linked.parent.mkdir(parents=True)
+        self.linked.touch()
 
     def use(self, name, *commands):
         """Has these commands stand in for a tool."""
@@ -110,6 +113,7 @@ class Whole(ProgramTest):
 
     def test_a_program_that_is_not_built_is_a_failure(self):
         self.use("build", "exit 4")
+        self.linked.unlink()
         self.assert_fails("10 passed, 4 failed")
 
     def test_a_test_of_the_program_that_fails_is_a_failure(self):

@@ -22,6 +22,9 @@ LAST = name(COLUMNS - 1, ROWS)
 ENTRY = f"=[.{SOURCE}]"
 # How many threads evaluate beside the caller's own, for so many workers.
 THREADS = {1: 0, 2: 1, 4: 3, 16: 15}
+# The other threads that a server of one session starts: one reads the first bytes of its connection, one is the session,
+# and two are for those who wait.
+BESIDE = 4
 
 # The last cell of those that each formula of sums adds up, from the first of them on, and how often that is changed.
 # They have few rows of many columns, so that each sum takes long although sums of columns are remembered.
@@ -86,8 +89,7 @@ class Workers(CountsThreads):
     def test_table_has_as_many_as_it_is_told(self):
         self.assert_command("table", TABLE, SHOWN)
 
-    def test_serve_has_as_many_as_it_is_told_beside_two_for_each_session(self):
-        # (one reads the first bytes of its connection)
+    def test_serve_has_as_many_as_it_is_told_beside_its_own(self):
         for workers, wanted in THREADS.items():
             threads = self.threads()
             with self.subTest(workers=workers), serving(1, "--workers", str(workers), **threads.how) as server:
@@ -95,7 +97,7 @@ class Workers(CountsThreads):
                 client.send(SCRIPT)
                 self.assertEqual(client.leave(), REPLIES)
                 self.assertEqual(server.ended(), Ended(0, lines(f"closed {ROWS + 1}")))
-                self.assertEqual(threads.started(), wanted + 2)
+                self.assertEqual(threads.started(), wanted + BESIDE)
 
     def test_a_kept_sheet_has_as_many_as_it_is_told(self):
         for workers in (4, 16):
@@ -113,7 +115,7 @@ class Workers(CountsThreads):
                 client.send(SCRIPT)
                 self.assertEqual(client.leave(), REPLIES)
                 self.assertEqual(server.ended(), Ended(0, lines(f"closed {ROWS + 1}"), told))
-                self.assertEqual(threads.started(), THREADS[workers] + 2)
+                self.assertEqual(threads.started(), THREADS[workers] + BESIDE)
 
     def test_each_has_its_part_of_a_level(self):
         # each formula is a sum, so that nearly all time is that of evaluations, most of it in changes of the one cell

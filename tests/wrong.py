@@ -132,14 +132,20 @@ def tried(top, kit, name, bodies):
     return len(bodies) - len(faults), len(faults)
 
 
+def in_order(top, chosen):
+    """Returns the crates of these mutants, first what is likely to take longest: many mutants over much text."""
+    def work(name):
+        files = (top / "crates" / name / "src").rglob("*.rt")
+        return len(chosen[name]) * sum(file.stat().st_size for file in files)
+
+    return sorted(chosen, key=work, reverse=True)
+
+
 def all_tried(top, only=""):
     """Tries the mutants of every crate, or of one. Returns how many were refused, and how many weren't."""
     kit = tools.folder()
     chosen = {name: bodies for name, bodies in edits.of_crates(top).items() if bodies and only in ("", name)}
-    # the crates that stand on most take longest
-    known = crates.uses(top)
-    order = sorted(chosen, key=lambda name: -len(below(known, name)))
     lanes = max(1, min(len(os.sched_getaffinity(0)), libraries.free_memory() // MEMORY))
     with ThreadPoolExecutor(lanes) as pool:
-        counts = list(pool.map(lambda name: tried(top, kit, name, chosen[name]), order))
+        counts = list(pool.map(lambda name: tried(top, kit, name, chosen[name]), in_order(top, chosen)))
     return sum(refused for refused, _ in counts), sum(failed for _, failed in counts)

@@ -10,9 +10,11 @@ import time
 from pathlib import Path
 
 from program import LIMIT, Ended
-from servers import HERE, free_port, page_of
+from servers import HERE, THREADS, free_port, page_of
 
 PIECE = 65_536
+# For how many seconds a server is waited for that starts its own threads.
+START = 2
 # (more than one segment of a connection on one machine, for which it would wait again and again)
 ROOM = 150_000
 # The state of a connection that is open, as the system lists it.
@@ -94,7 +96,9 @@ class Server:
         files = {"stdin": subprocess.DEVNULL, "stdout": subprocess.PIPE, "stderr": subprocess.PIPE}
         self.process = subprocess.Popen(asked, start_new_session=True, **files, **how)
         self.is_listening = self.process.stdout.readline() == b"listening %d\n" % self.port
-        self.before = self.measured() if self.is_listening else {}
+        # (its own threads start once it listens, if they can)
+        has_begun = lambda it: it.get("threads", THREADS) >= THREADS
+        self.before = self.settled(has_begun, START) if self.is_listening else {}
 
     def connect(self, is_narrow=False):
         """A connection to it."""
@@ -126,9 +130,9 @@ class Server:
         except (OSError, TypeError):
             return {}
 
-    def settled(self, is_settled):
-        """What is measured once this holds of it, or after some time whatever there is."""
-        deadline = time.monotonic() + LIMIT / 2
+    def settled(self, is_settled, seconds=LIMIT / 2):
+        """What is measured once this holds of it, or after so many seconds whatever there is."""
+        deadline = time.monotonic() + seconds
         while not is_settled(found := self.measured()) and time.monotonic() < deadline:
             time.sleep(0.01)
         return found

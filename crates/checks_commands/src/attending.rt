@@ -7,7 +7,7 @@ use ps_desk::{Desk, DeskName, Parts, Presence};
 use ps_device::{Reading, Writing};
 use ps_eval::Meter;
 use ps_grid::Refusal;
-use ps_server::{Counts, DeskSeat, attend_lines};
+use ps_server::{Counts, DeskSession, attend_lines};
 use ps_session::{HeldOutput, Resources};
 use ps_sheet::Sheet;
 use std::alloc::Global;
@@ -51,7 +51,7 @@ fn answered<
     let mut sink = HeldOutput::<Writing<&mut Vec<u8>, O>, N>::new(alloc, writing, counts.held);
     let mut meter = Meter::<M>::new(counts.evaluations);
     let presence = Presence::none();
-    let at = DeskSeat {
+    let at = DeskSession {
         desk: &desk,
         pass,
         presence,

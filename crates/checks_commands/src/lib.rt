@@ -1,7 +1,7 @@
 //! Tests of `ps_commands`, `ps_server`, `ps_words` and `ps_hints`, by their public items.
 //!
-//! They test a session at a desk, devices that fail, the command line and its help, hints, and squashed lines. They are
-//! a crate of their own, since a crate with tests is proved twice. No crate depends on this one.
+//! They test a session at a desk, devices that fail, the command line and its help, and hints.
+//! They are a crate of their own, since a crate with tests is proved twice. No crate depends on this one.
 #![tactic(auto)]
 
 #[cfg(test)]
@@ -9,12 +9,8 @@ mod attending;
 #[cfg(test)]
 mod devices;
 #[cfg(test)]
-mod explain;
-#[cfg(test)]
 mod help;
 #[cfg(test)]
 mod hints;
-#[cfg(test)]
-mod squash;
 #[cfg(test)]
 mod words;

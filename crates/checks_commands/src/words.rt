@@ -15,8 +15,9 @@ fn words(alloc: Global, line: &str) -> Result<Vec<String>, AllocError> {
 
 /// Returns two numbers of a command, or the exit status that `clap` gives.
 ///
-/// They are two numbers of `run`, `sync`, `join` or `serve`, one of `table` or `talk` and 0, or the port and the pause of
-/// `follow`. The pause is 0 here without `--until-now`.
+/// They are two numbers of `run`, `sync`, `join` or `serve`, one of `table` or `talk` and 0, or the port and the pause
+/// of `follow`. The pause is 0 here without `--until-now`. Of `squash` they are the lines and the replica, 0 if left
+/// out.
 fn numbers(alloc: Global, line: &str) -> Result<Result<(u16, u16), i32>, AllocError> {
     let words = words(alloc, line)?;
     Ok(match read_words(alloc, words.as_slice()) {
@@ -31,7 +32,10 @@ fn numbers(alloc: Global, line: &str) -> Result<Result<(u16, u16), i32>, AllocEr
         Ok(Options::Follow(options)) if options.until_now => Ok((options.from, options.every)),
         Ok(Options::Follow(options)) => Ok((options.from, 0)),
         Ok(Options::Talk(options)) => Ok((options.to, 0)),
-        Ok(Options::Squash(_)) => Ok((0, 0)),
+        Ok(Options::Squash(options)) => Ok((
+            u16::try_from(options.until.unwrap_or(0)).unwrap_or(u16::MAX),
+            u16::from(options.without.unwrap_or(0)),
+        )),
         Err(error) => Err(error.exit_code()),
     })
 }
@@ -50,6 +54,8 @@ fn options_are_read(rt: HostRuntime) -> Result<(), Fail> {
         ("sheet join --to=65535 --from 1", (1, 65535)),
         ("sheet join --from=7001 --once --to=7002", (7001, 7002)),
         ("sheet squash", (0, 0)),
+        ("sheet squash --until 100 --without=32", (100, 32)),
+        ("sheet squash --keep plan.lines", (0, 0)),
         ("sheet talk --to=7001", (7001, 0)),
         ("sheet follow --from 7001", (7001, 0)),
         ("sheet follow --from 7001 --until-now", (7001, 50)),
@@ -208,7 +214,13 @@ sheet follow --from=1 --until-now=yes
 sheet talk --explain
 sheet talk --to=0
 sheet squash plan.lines
-sheet squash --workers 1";
+sheet squash --workers 1
+sheet squash --until 0
+sheet squash --until 1000000001
+sheet squash --without 0
+sheet squash --without 33
+sheet squash --keep plan.lines --until 1
+sheet squash --without 1 --keep plan.lines";
 
 /// Words that ask for help or the version.
 const ASKING: &str = "\

@@ -134,7 +134,7 @@ fn a_file_of_the_system(rt: HostRuntime) -> Result<(), Fail> {
     assert_eq!(rt; fs::read(&rt, path)?.as_slice(), b"ab\ncd\n".as_slice());
     fs::remove_file(&rt, path)?;
     match FoundFile::open(&rt, alloc, ".") {
-        Err(FileFault::Device) => {}
+        Err(FileFault::Device(_)) => {}
         _ => assert!(rt; false),
     }
     Ok(())

@@ -3,7 +3,7 @@
 use crate::desks::enter;
 use ps_desk::{Desk, DeskName, Pass, Presence, Seat, desk_is_sync};
 use ps_keep::Device;
-use ps_kept_desk::{DeskKeeper, Ended, KeptPlace, SeatKeeper, keeper_is_sync};
+use ps_kept_desk::{DeskKeeper, DurablePosition, Ended, SeatKeeper, keeper_is_sync};
 use ps_session::Keeper;
 use std::alloc::Global;
 use std::process::Abort;
@@ -29,7 +29,7 @@ pub(crate) enum Job<'a> {
 #[derive(Drop)]
 pub(crate) struct Left<L: DeskName> {
     pass: Pass<L>,
-    kept: KeptPlace<L>,
+    kept: DurablePosition<L>,
     acknowledged: Vec<(u64, u64, u16)>,
 }
 
@@ -99,7 +99,7 @@ fn session<L: DeskName, D: Device + Drop, W: Wait + Drop, T: Abort + Threads + W
         }
     }
     Left {
-        pass: seat.leave(),
+        pass: seat.leave().0,
         kept: own.leave(),
         acknowledged,
     }

@@ -70,7 +70,7 @@ struct ByLines<'a>(&'a [u8]);
 impl Read for ByLines<'_> {
     fn read(&mut self, buf: &mut [u8]) -> io::Result<usize> {
         let line = match self.0.iter().position(|b| *b == b'\n') {
-            Some(place) => place + 1,
+            Some(position) => position + 1,
             None => self.0.len(),
         };
         let count = line.min(buf.len());

@@ -1,7 +1,7 @@
 //! Tests of sessions and of desks, by public calls alone.
 //!
 //! - `session` tests how bytes come together to lines, and `kept_line` what a line of a kept file says.
-//! - `runs` tests the replies of a sheet's session, and `keeping` a session whose keeper or sink fails.
+//! - `keeping` tests a session whose keeper or sink fails.
 //! - `syncing` and `following` test what peers may reply.
 //! - `desk` tests a sheet shared by several sessions, of `ps_desk`.
 //!
@@ -16,8 +16,6 @@ mod following;
 mod keeping;
 #[cfg(test)]
 mod kept_line;
-#[cfg(test)]
-mod runs;
 #[cfg(test)]
 mod session;
 #[cfg(test)]

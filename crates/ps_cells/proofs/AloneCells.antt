@@ -1,5 +1,5 @@
 -- A change of cells without formulas that no formula refers to: these cells are its region.
-use Rattle.std.proofs.Common.{◌≡◌, ◌<◌, ◌≤◌, ◌-◌, ℕ, Bool, true, false, not, ◌&&◌, List, [], ◌∷◌}
+use Rattle.std.proofs.Common.{◌≡◌, ◌<◌, ◌≤◌, ◌-◌, ℕ, Bool, true, false, not, ◌&&◌, ◌||◌, List, [], ◌∷◌}
 use Rattle.std.proofs.Common.{refl, sym, ap, ◌∙◌, ⊎_elim, arith, eqb, subst, take}
 use Rattle.std.specs.Iterator.{YieldsFirst}
 use Rattle.std.specs.List.{IsDistinct, list_all, list_any}
@@ -12,6 +12,7 @@ use Rattle.ps_grid.specs.declared.size.TheConstants.{CELLS}
 use Rattle.ps_grid.specs.Chains.{References, In, InRegion, IsDepth}
 use Rattle.ps_grid.proofs.ChainLemmas.{All-In, In-decided}
 use Rattle.ps_grid.proofs.RegionLemmas.{InRegion-touched, InRegion-least}
+use Rattle.ps_region.specs.CellSets.{has_cell}
 use Rattle.ps_region.specs.Found.{Found, IsFound, level_cells}
 use Rattle.ps_cells.specs.Inside.Alone.{is_alone, is_empty}
 use Rattle.ps_eval.specs.Items.{Assignment}
@@ -20,7 +21,7 @@ use Rattle.ps_cells.specs.Settled.{refers_to, Cyclic, IsSettled}
 use Rattle.ps_cells.specs.Inside.Steps.{AreListed}
 use Rattle.ps_cells.specs.Inside.Waiting.{first_value}
 use Rattle.ps_cells.specs.Inside.Walk.{formula_at, AreLevels, InFrame, IsStateChange, IsCount, IsPassed, IsWork}
-use Rattle.ps_cells.specs.Inside.Walk.{Begun, ListsCyclic, Walked}
+use Rattle.ps_cells.specs.Inside.Walk.{Begun, HoldsCyclic, Walked}
 use Rattle.ps_cells.proofs.FoundLevels.{walked_settled, walked_counted, cyclic_counted}
 use Rattle.ps_cells.proofs.Recalculations.{cyclic_now, deepest_now, levels_found, walked_now}
 use Rattle.ps_cells.proofs.SettledValues.{true_not_false}
@@ -138,8 +139,10 @@ module _ (s t : State) (v : Assignment) (touched : List ℕ) (change : IsStateCh
     levels : AreLevels t touched (level_cells (found_alone touched)) 0
     levels = levels_found s t v touched change inside (found_alone touched) found
 
-    pub cyclic_alone : ListsCyclic s [] → ListsCyclic t []
-    cyclic_alone none = cyclic_now s t v touched change inside (found_alone touched) found [] none
+    pub cyclic_alone : (set : List Bool) → ((c : ℕ) → has_cell set c ≡ false) → HoldsCyclic s set → HoldsCyclic t set
+    cyclic_alone set none holds =
+        cyclic_now s t v touched change inside (found_alone touched) found set set holds
+        (λ c. none c ∙ sym (ap (λ b. (b && not (list_any (eqb c) touched)) || false) (none c)))
 
     pub closes_alone : IsCount (λ c. InRegion (refers_to t) touched c × (formula_at t c ≡ true) × Cyclic t c) 0
     closes_alone = cyclic_counted t touched [] found.cyclic_sound found.cyclic_complete found.cyclic_once

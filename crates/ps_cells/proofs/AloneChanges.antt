@@ -1,5 +1,5 @@
 -- What a change of cells that are alone recalculates: these show their first values, and nothing is evaluated.
-use Rattle.std.proofs.Common.{◌≡◌, ℕ, true, List, [], ◌∷◌, refl, sym, ap, ◌∙◌, subst, inl}
+use Rattle.std.proofs.Common.{◌≡◌, ℕ, true, false, List, [], ◌∷◌, refl, sym, ap, ◌∙◌, subst, inl}
 use Rattle.std.specs.Prelude.{None}
 use Rattle.std.specs.List.{list_all}
 use Rattle.ps_grid.specs.Chains.{In}
@@ -7,6 +7,7 @@ use Rattle.ps_eval.specs.Items.{Assignment}
 use Rattle.ps_shown.specs.declared.kept.Kept.{Kept}
 use Rattle.ps_shown.specs.Kept.{value_of as value_kept}
 use Rattle.ps_shown.specs.Shown.{shown_at, with_value}
+use Rattle.ps_region.specs.CellSets.{has_cell}
 use Rattle.ps_region.specs.Listed.{listed}
 use Rattle.ps_delta.specs.State.{state_at}
 use Rattle.ps_cells.specs.declared.tables.Tables.{Tables}
@@ -14,7 +15,7 @@ use Rattle.ps_cells.specs.Inside.Alone.{is_alone}
 use Rattle.ps_cells.specs.Inside.Kept.{MayRecalculate, Recalculates}
 use Rattle.ps_cells.specs.Inside.Screens.{ScreenView, cells_in, put_back}
 use Rattle.ps_cells.specs.Inside.Waiting.{first_value}
-use Rattle.ps_cells.specs.Inside.Walk.{ListsCyclic, formula_at}
+use Rattle.ps_cells.specs.Inside.Walk.{formula_at}
 use Rattle.ps_cells.proofs.AloneCells.{settled_alone, counted_alone}
 use Rattle.ps_cells.proofs.AloneCells.{cyclic_alone, closes_alone, deepest_alone}
 use Rattle.ps_cells.proofs.ChangeLists.{back_absent}
@@ -27,7 +28,7 @@ put_sole v c k = refl
 
 module _ (x : Tables) (first : List (ℕ × Kept)) (screen : ScreenView) (may : MayRecalculate x (cells_in first) first)
     (alone : list_all (is_alone (formula_at (state_at x.grid)) (listed x.index)) (cells_in first) ≡ true)
-    (none : x.cyclic.items ≡ []) (put : shown_at screen.kept ≡ put_back first (shown_at x.shown.kept)) where
+    (none : (c : ℕ) → has_cell x.cyclic c ≡ false) (put : shown_at screen.kept ≡ put_back first (shown_at x.shown.kept)) where
   nothing_done : Recalculates x (record x { shown = screen; source = None }) (cells_in first) 0 0 0
   nothing_done =
       let t = state_at x.grid in
@@ -46,10 +47,8 @@ module _ (x : Tables) (first : List (ℕ × Kept)) (screen : ScreenView) (may : 
         settled = settled_alone may.before t v touched may.change may.inside may.once list may.lists alone u firsts
             others;
         tidy = record {
-          cyclic = subst (λ (xs : List ℕ). ListsCyclic t xs) (sym none)
-              (cyclic_alone may.before t v touched may.change may.inside may.once list may.lists alone
-              (subst (λ (xs : List ℕ). ListsCyclic may.before xs) none may.tidy.cyclic));
-          room = may.tidy.room;
+          cyclic = cyclic_alone may.before t v touched may.change may.inside may.once list may.lists alone x.cyclic none
+              may.tidy.cyclic;
           length = may.tidy.length;
           off = may.tidy.off;
           level = may.tidy.level;

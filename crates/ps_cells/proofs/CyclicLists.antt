@@ -1,18 +1,13 @@
--- The list of the cyclic cells after a change: of those before it the ones outside the region, and those of the region.
+-- Lists of cells without doubles: filters, and two of them joined.
 use Rattle.std.proofs.Common.{◌≡◌, ℕ, Bool, true, false, not, ◌⊎◌, List, [], ◌∷◌, ◌++◌, refl}
 use Rattle.std.proofs.Common.{sym, ap, ◌∙◌, ⊎_elim, eqb, subst}
 use Rattle.std.specs.List.{list_any, filter, IsDistinct}
 use Rattle.std.proofs.lemmas.Bool.{or_left, or_right, or_cases}
 use Rattle.std.proofs.lemmas.List.Folds.{list_any-append}
 use Rattle.std.proofs.lemmas.Map.Keys.{IsDistinct-cons, IsDistinct-head, IsDistinct-tail}
-use Rattle.ps_grid.specs.Chains.{In, InRegion}
+use Rattle.ps_grid.specs.Chains.{In}
 use Rattle.ps_grid.proofs.ChainLemmas.{bool_cases, In-decided, In-self, In-more, In-cases, apart}
-use Rattle.ps_eval.specs.Items.{Assignment}
-use Rattle.ps_delta.specs.State.{State}
-use Rattle.ps_cells.specs.Settled.{refers_to, Cyclic}
-use Rattle.ps_cells.specs.Inside.Walk.{IsStateChange, ListsCyclic}
 use Rattle.ps_cells.proofs.SettledValues.{true_not_false}
-use Rattle.ps_cells.proofs.ChangedStates.{same_cyclic}
 use Rattle.ps_cells.proofs.ListedCells.{absent}
 
 -- a cell is left by a filter where it stood in the list and passes
@@ -85,47 +80,3 @@ IsDistinct-joined (x ∷ xs) ys once_x once_y differ =
     (λ b. differ x (In-self x xs) b)
     (or_cases (list_any (eqb x) xs) (list_any (eqb x) ys) (sym (list_any-append (eqb x) xs ys) ∙ i)))
     (IsDistinct-joined xs ys (IsDistinct-tail eqb x xs once_x) once_y (λ c i. differ c (In-more c x xs i)))
-
-not_true : (b : Bool) → not b ≡ true → b ≡ false
-not_true true h = absurd (true_not_false false h refl)
-not_true false h = refl
-
-module _ (s t : State) (v : Assignment) (touched : List ℕ) (change : IsStateChange s t v touched)
-    (kept members found : List ℕ) (listed : ListsCyclic s kept)
-    (sound : (c : ℕ) → In members c → InRegion (refers_to t) touched c)
-    (complete : (c : ℕ) → InRegion (refers_to t) touched c → In members c)
-    (found_sound : (c : ℕ) → In found c → InRegion (refers_to t) touched c × Cyclic t c)
-    (found_complete : (c : ℕ) → InRegion (refers_to t) touched c → Cyclic t c → In found c)
-    (found_once : IsDistinct eqb found) where
-  abbrev stays : List ℕ
-  stays = filter (λ c. not (list_any (eqb c) members)) kept
-
-  stays_outside : (c : ℕ) → In stays c → ¬ InRegion (refers_to t) touched c
-  stays_outside c i r =
-      let m = In-filtered (λ c. not (list_any (eqb c) members)) kept c i in
-      true_not_false (list_any (eqb c) members) (complete c r) (not_true (list_any (eqb c) members) m.1)
-
-  cases : (c : ℕ) → In (stays ++ found) c → In stays c ⊎ In found c
-  cases c i = or_cases (list_any (eqb c) stays) (list_any (eqb c) found) (sym (list_any-append (eqb c) stays found) ∙ i)
-
-  in_stays : (c : ℕ) → ¬ In members c → Cyclic t c → In stays c
-  in_stays c out cyc =
-      let was = (same_cyclic s t v touched change c (λ r. out (complete c r))).1 cyc in
-      In-filter (λ c. not (list_any (eqb c) members)) kept c (listed.complete c was) (ap not (outside c members out))
-
-  -- the list has just the cyclic cells after the change
-  pub cyclic_listed : ListsCyclic t (filter (λ c. not (list_any (eqb c) members)) kept ++ found)
-  cyclic_listed = record {
-    once = IsDistinct-joined stays found
-        (IsDistinct-filter (λ c. not (list_any (eqb c) members)) kept listed.once) found_once
-        (λ c i f. stays_outside c i (found_sound c f).0);
-    sound = λ c i. ⊎_elim
-        (λ a. (same_cyclic s t v touched change c (stays_outside c a)).0
-        (listed.sound c (In-filtered (λ c. not (list_any (eqb c) members)) kept c a).0))
-        (λ f. (found_sound c f).1)
-        (cases c i);
-    complete = λ c cyc. list_any-append (eqb c) stays found ∙ ⊎_elim
-        (λ m. or_right (list_any (eqb c) stays) (list_any (eqb c) found) (found_complete c (sound c m) cyc))
-        (λ out. or_left (list_any (eqb c) stays) (list_any (eqb c) found) (in_stays c out cyc))
-        (In-decided members c);
-  }

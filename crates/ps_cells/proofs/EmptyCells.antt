@@ -1,14 +1,14 @@
 -- Tables that hold nothing.
-use Rattle.std.proofs.Common.{◌≡◌, ℕ, true, false, []}
-use Rattle.std.proofs.Common.{refl, ap}
+use Rattle.std.proofs.Common.{◌≡◌, ℕ, Bool, List, true, false, []}
+use Rattle.std.proofs.Common.{refl, sym, ap, ◌∙◌}
 use Rattle.ps_value.specs.declared.value.Value.TheVariants.{Empty}
 use Rattle.ps_delta.specs.State.{IsInGrid, empty_cell, empty_state}
 use Rattle.ps_eval.specs.Items.{Assignment}
 use Rattle.ps_cells.specs.Settled.{refers_to, Cyclic, IsSettled}
 use Rattle.ps_cells.specs.Inside.Waiting.{is_waiting}
 use Rattle.ps_cells.specs.Inside.Formulas.{forms_of}
-use Rattle.ps_cells.specs.Inside.Walk.{ListsCyclic}
-use Rattle.std.specs.List.{IsDistinct}
+use Rattle.ps_cells.specs.Inside.Walk.{HoldsCyclic}
+use Rattle.ps_region.specs.CellSets.{has_cell}
 use Rattle.ps_grid.proofs.CycleLemmas.{IsCyclic-next}
 use Rattle.ps_cells.proofs.SettledValues.{true_not_false, progress_start}
 use Rattle.ps_cells.proofs.SettledValues.{settled_at_end}
@@ -40,10 +40,8 @@ unfolding empty_state empty_cell
 forms_empty = refl
 
 -- and no cyclic cell
-pub cyclic_empty : ListsCyclic empty_state []
-unfolding IsDistinct
-cyclic_empty = record {
-  once = tt;
-  sound = λ c i. absurd (let f : false ≡ true = i in cc);
+pub cyclic_empty : (set : List Bool) → ((c : ℕ) → has_cell set c ≡ false) → HoldsCyclic empty_state set
+cyclic_empty set none = record {
+  sound = λ c i. absurd (let f : false ≡ true = sym (none c) ∙ i in cc);
   complete = λ c cyc. absurd (acyclic_empty c cyc);
 }

@@ -7,7 +7,7 @@ pub mod CellCounts
 pub mod ChangeLists
 pub mod ChangedStates
 pub mod CyclicLists
-pub mod CyclicOlds
+pub mod CyclicSets
 pub mod EmptyCells
 pub mod FirstValues
 pub mod FlagTables
@@ -31,7 +31,6 @@ pub mod SettledExists
 pub mod SettledValues
 pub mod StagedOrWhole
 pub mod TakenIn
-pub mod UnmetCircles
 pub mod WalkEnds
 pub mod WalkLevels
 pub mod WalkSteps

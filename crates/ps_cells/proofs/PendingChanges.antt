@@ -84,7 +84,6 @@ pub tidy_with : (s : State) (x : Tables) (grid : Blocks) (index : List (List Spa
     → IsTidy s x → IsTidy s (record x { grid = grid; index = index; shown = shown })
 tidy_with s x grid index shown tidy = record {
   cyclic = tidy.cyclic;
-  room = tidy.room;
   length = tidy.length;
   off = tidy.off;
   level = tidy.level;

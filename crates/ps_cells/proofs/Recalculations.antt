@@ -1,22 +1,22 @@
 -- What a recalculation hands to the marking of the region, and what it takes from it.
 use Rattle.std.proofs.Common.{◌≡◌, ◌&&◌, ℕ, ◌<◌, ◌≤◌, ◌+◌, Bool, true, ◌⊎◌, inl, inr, List, [], refl}
 use Rattle.std.proofs.Common.{⊎_elim}
-use Rattle.std.proofs.Common.{lt-ltb, arith, ◌++◌, ◌≢◌, length, length-append, filter, not, eqb, get_or}
+use Rattle.std.proofs.Common.{lt-ltb, arith, ◌||◌, ◌≢◌, not, eqb, get_or}
 use Rattle.std.specs.List.{list_any}
-use Rattle.ps_cells.proofs.CellCounts.{distinct_below_cells}
-use Rattle.ps_cells.proofs.CyclicLists.{cyclic_listed}
+use Rattle.ps_cells.proofs.CyclicSets.{cyclic_held}
 use Rattle.ps_cells.proofs.ListedCells.{In-place}
 use Rattle.std.specs.Prelude.{nat_lt}
 use Rattle.std.proofs.lemmas.Bool.{cases_eq}
 use Rattle.ps_grid.specs.declared.size.TheConstants.{CELLS}
 use Rattle.ps_grid.specs.Chains.{In, IsCyclic, InRegion, IsDepth}
+use Rattle.ps_region.specs.CellSets.{has_cell}
 use Rattle.ps_region.specs.Found.{Found, IsFound, level_cells, level_count}
 use Rattle.ps_eval.specs.Items.{Assignment}
 use Rattle.ps_delta.specs.State.{State}
 use Rattle.ps_cells.specs.Settled.{content_of, refers_to}
 use Rattle.ps_cells.specs.Inside.Bounded.{bounded}
 use Rattle.ps_cells.specs.Inside.Steps.{AreListed, Road, MayWalk, StepsLevels}
-use Rattle.ps_cells.specs.Inside.Walk.{formula_at, InFrame, IsStateChange, ListsCyclic, Begun, Walked, AreLevels}
+use Rattle.ps_cells.specs.Inside.Walk.{formula_at, InFrame, IsStateChange, HoldsCyclic, Begun, Walked, AreLevels}
 use Rattle.ps_cells.specs.Inside.Walk.{IsPassed}
 use Rattle.ps_cells.proofs.SettledValues.{formula_below, refers_formula}
 use Rattle.ps_cells.proofs.ChangedStates.{same_cyclic, cyclic_formula}
@@ -44,18 +44,20 @@ module _ (s t : State) (v : Assignment) (touched : List ℕ) (change : IsStateCh
       (λ (j : In touched c). inr j)
       ((lists d lt).extra c i)
 
-  pub outside_yes : (cells : List ℕ) → ListsCyclic s cells
-      → (c : ℕ) → (InRegion (bounded (refers_to t)) touched c → ⊥) → In cells c → IsCyclic (bounded (refers_to t)) c
-  outside_yes cells listed c out i =
+  pub outside_yes : (set : List Bool) → HoldsCyclic s set
+      → (c : ℕ) → (InRegion (bounded (refers_to t)) touched c → ⊥) → has_cell set c ≡ true
+      → IsCyclic (bounded (refers_to t)) c
+  outside_yes set holds c out i =
       (cyclic_bounded (refers_to t) (formula_at t) touched formula below inside c).1
       ((same_cyclic s t v touched change c
       (λ r. out ((region_bounded (refers_to t) (formula_at t) touched formula below inside c).1 r))).0
-      (listed.sound c i))
+      (holds.sound c i))
 
-  pub outside_no : (cells : List ℕ) → ListsCyclic s cells
-      → (c : ℕ) → (InRegion (bounded (refers_to t)) touched c → ⊥) → IsCyclic (bounded (refers_to t)) c → In cells c
-  outside_no cells listed c out cyc =
-      listed.complete c
+  pub outside_no : (set : List Bool) → HoldsCyclic s set
+      → (c : ℕ) → (InRegion (bounded (refers_to t)) touched c → ⊥) → IsCyclic (bounded (refers_to t)) c
+      → has_cell set c ≡ true
+  outside_no set holds c out cyc =
+      holds.complete c
       ((same_cyclic s t v touched change c
       (λ r. out ((region_bounded (refers_to t) (formula_at t) touched formula below inside c).1 r))).1
       ((cyclic_bounded (refers_to t) (formula_at t) touched formula below inside c).0 cyc))
@@ -95,22 +97,15 @@ module _ (s t : State) (v : Assignment) (touched : List ℕ) (change : IsStateCh
         (λ c r cyc. found.cyclic_complete c r (cyclic_formula t c cyc) cyc))
 
     -- the cells that are cyclic now
-    pub cyclic_now : (cells : List ℕ) → ListsCyclic s cells
-        → ListsCyclic t (filter (λ c. not (list_any (eqb c) f.members)) cells ++ f.cyclic)
-    cyclic_now cells listed =
-        cyclic_listed s t v touched change cells f.members f.cyclic listed found.region_sound found.region_complete
+    pub cyclic_now : (kept now : List Bool) → HoldsCyclic s kept
+        → ((c : ℕ) → has_cell now c
+        ≡ ((has_cell kept c && not (list_any (eqb c) f.members)) || list_any (eqb c) f.cyclic))
+        → HoldsCyclic t now
+    cyclic_now kept now holds renewed =
+        cyclic_held s t v touched change kept now f.members f.cyclic holds found.region_sound found.region_complete
         (λ c i. let z = found.cyclic_sound c i in (z.0, z.2))
         (λ c r cyc. found.cyclic_complete c r (cyclic_formula t c cyc) cyc)
-        found.cyclic_once
-
-    pub cyclic_room : (cells : List ℕ) → ListsCyclic s cells
-        → length (filter (λ c. not (list_any (eqb c) f.members)) cells) + length f.cyclic ≤ CELLS
-    cyclic_room cells listed =
-        let all = cyclic_now cells listed in
-        let few = distinct_below_cells (filter (λ c. not (list_any (eqb c) f.members)) cells ++ f.cyclic) all.once
-        (λ c i. below c (cyclic_formula t c (all.sound c i))) in
-        let both = length-append (filter (λ c. not (list_any (eqb c) f.members)) cells) f.cyclic in
-        omega (arith, few, both)
+        renewed
 
     -- the depths of the frame
     pub deepest_now : (c : ℕ) → InFrame t touched c

@@ -1,8 +1,9 @@
 //! The beginning of a change: everything that needs memory.
 
-ghost use Rattle.std.specs.Prelude.{◌≡◌, [], true, false, OnOk, OnErr, IfOk, IfErr};
+ghost use Rattle.std.specs.Prelude.{◌≡◌, ℕ, [], true, false, OnOk, OnErr, IfOk, IfErr};
 ghost use Rattle.std.specs.List.{list_all};
 ghost use Rattle.ps_index.specs.Stands.{Puts, Stands, with_put};
+ghost use Rattle.ps_region.specs.CellSets.{has_cell};
 ghost use Rattle.ps_region.specs.Listed.{listed};
 ghost use Rattle.ps_content.specs.Order.{formula_in};
 ghost use Rattle.ps_delta.specs.State.{state_at};
@@ -16,6 +17,7 @@ use crate::contents::{first_of, formula_of, holds_formula};
 use ps_delta::{CellState, Delta, Grid};
 use ps_grid::{Cell, Refusal};
 use ps_index::{Index, Readers};
+use ps_region::CellSet;
 use ps_shown::Kept;
 use std::alloc::Global;
 
@@ -64,7 +66,7 @@ pub(crate) fn begin(
     alloc: Global,
     grid: &mut Grid,
     index: &mut Index,
-    cyclic: &[Cell],
+    cyclic: &CellSet,
     lists: &mut Lists,
     delta: &Delta,
 ) -> Result<Beginning, Refusal>
@@ -75,7 +77,7 @@ pub(crate) fn begin(
         → lists.new.touched.items ≡ cells_of lists.new.states.items) }
     ensures first { IfOk result (λ how. shown_firsts (firsts_by how lists.new.first.items)
         ≡ firsts lists.new.states.items) }
-    ensures alone { IfOk result (λ how. are_alone how ≡ true → (cyclic.now ≡ [])
+    ensures alone { IfOk result (λ how. are_alone how ≡ true → ((c : ℕ) → has_cell cyclic.now c ≡ false)
         × (list_all (is_alone_entry (listed index.new)) lists.new.states.items ≡ true)) }
     ensures put { OnOk result ((forms : Puts) → Stands index.old forms
         → Stands index.new (with_puts lists.new.states.items forms)) }

@@ -13,8 +13,8 @@
 //! evaluated, and [`Cells::list_changed`] lists A1 and B1. After a cancel both show what they did.
 //!
 //! Cost: for each cell of the grid what it holds, what it shows and some numbers for recalculating. A change costs its
-//! join and its region: the cells that it reaches, their references and the evaluations, which workers share. It also
-//! looks once at each cell that shows `#CYCLE!`.
+//! join and its region: the cells that it reaches, their references and the evaluations, which workers share. Cells
+//! that show `#CYCLE!` cost nothing if they are outside the region.
 #![tactic(auto)]
 
 mod cells;

@@ -9,14 +9,14 @@ ghost use Rattle.ps_region.specs.Found.{IsFound, has_left};
 ghost use Rattle.ps_region.specs.Listed.{listed};
 ghost use Rattle.ps_cells.specs.Settled.{refers_to};
 ghost use Rattle.ps_cells.specs.Inside.Steps.{AreListed};
-ghost use Rattle.ps_cells.specs.Inside.Walk.{formula_at, IsStateChange, IsRegionOf, ListsCyclic};
+ghost use Rattle.ps_cells.specs.Inside.Walk.{formula_at, IsStateChange, IsRegionOf, HoldsCyclic};
 
 use crate::contents::{formula_of, holds_formula};
 use ps_delta::Grid;
 use ps_formula::Formula;
-use ps_grid::{CELLS, Cell};
+use ps_grid::{CELLS, Cell, Rect};
 use ps_index::Index;
-use ps_region::{After, Region};
+use ps_region::{After, CellSet, Region};
 
 /// The formulas that the cells hold.
 #[derive(Drop)]
@@ -41,6 +41,15 @@ impl After for FormulasAfter<'_> {
         match formula_of(self.grid.at(c)) {
             None => false,
             Some(formula) => refers(formula, d),
+        }
+    }
+
+    fn rects(&self, c: Cell) -> &[Rect] {
+        // for the fact that the cell is in the grid
+        let _ = c.index();
+        match formula_of(self.grid.at(c)) {
+            None => &[],
+            Some(formula) => formula.rects(),
         }
     }
 
@@ -97,12 +106,12 @@ pub(crate) fn find_region(
     grid: &Grid,
     index: &Index,
     touched: &[Cell],
-    cyclic: &[Cell],
+    cyclic: &CellSet,
     region: &mut Region,
     source: &mut Option<Cell>,
 )
     requires change { (s : State) × (v : Assignment) × IsStateChange s (state_at grid.now) v touched.now
-        × ListsCyclic s cyclic.now × IsRegionOf s source.old region.old }
+        × HoldsCyclic s cyclic.now × IsRegionOf s source.old region.old }
     requires inside { (c : ℕ) → In touched.now c → c < CELLS }
     requires lists { AreListed (refers_to (state_at grid.now)) touched.now (listed index.now) }
     ensures found { IsFound (refers_to (state_at grid.now)) (formula_at (state_at grid.now)) touched.now region.new }

@@ -11,14 +11,15 @@ ghost use Rattle.ps_shown.specs.Shown.{shown_at, with_value};
 ghost use Rattle.ps_cells.specs.Inside.Steps.{flag_at};
 ghost use Rattle.ps_eval.specs.Summarized.{Summarizes};
 ghost use Rattle.ps_eval.specs.Items.{Assignment, range_items};
-ghost use Rattle.ps_cells.specs.Inside.Screens.{AddsCyclic, Differ, IsNoted, ListsDiffering, ShowCycle};
-ghost use Rattle.ps_cells.specs.Inside.Screens.{before_of, cells_in, put_back, was_cyclic};
+ghost use Rattle.ps_cells.specs.Inside.Screens.{Differ, HoldsAsKept, IsNoted, ListsDiffering, ShowCycle};
+ghost use Rattle.ps_cells.specs.Inside.Screens.{before_of, cells_in, put_back};
 ghost use Rattle.ps_cells.specs.Inside.Waiting.{is_waiting};
 ghost use Rattle.ps_cells.specs.ChangedCells.{IsChanged};
 
 use crate::tables::no_flags;
 use ps_eval::Summary;
 use ps_grid::{CELLS, Cell, Rect, Refusal};
+use ps_region::CellSet;
 use ps_shown::{Kept, LONG, Shown};
 use ps_value::{Fault, Operand, Value};
 use std::alloc::Global;
@@ -150,21 +151,14 @@ impl Screen {
         }
     }
 
-    /// Whether a cell shows `#CYCLE!`.
-    pub(crate) fn is_cyclic(&self, cell: Cell) -> bool
-        ensures { result ≡ is_waiting (shown_at self.now.kept cell) }
+    /// Makes a set of the cells that show `#CYCLE!` one of those that showed it before.
+    ///
+    /// Cost: the cells that were put.
+    pub(crate) fn restore_cyclic(&self, cyclic: &mut CellSet)
+        requires now { ShowCycle (shown_at self.now.kept) cyclic.old }
+        ensures before { ShowCycle (before_of self.now) cyclic.new }
     {
-        is_cycle(self.shown.kept(cell))
-    }
-
-    /// Adds the cells that showed `#CYCLE!` before and don't now to the list of those that show it now.
-    pub(crate) fn add_cyclic(&self, cells: &mut Vec<Cell>)
-        requires now { ShowCycle (shown_at self.now.kept) (shown_at self.now.kept) cells.old.items }
-        requires room { CELLS ≤ vec_capacity cells.old }
-        ensures both { ShowCycle (shown_at self.now.kept) (before_of self.now) cells.new.items }
-        ensures room { vec_capacity cells.old ≤ vec_capacity cells.new }
-    {
-        add_all_cyclic(&self.olds, &self.shown, cells);
+        restore_each(&self.olds, cyclic);
     }
 
     /// Puts what a cell shows from now on.
@@ -245,37 +239,25 @@ fn is_cycle(kept: &Kept) -> bool
     matches!(kept, Kept::Err(Fault::Cycle))
 }
 
-/// Adds the cells of old values to a list if they showed `#CYCLE!` before and don't now.
-fn add_all_cyclic(olds: &[(Cell, Kept)], shown: &Shown, cells: &mut Vec<Cell>)
+/// Puts the cells of old values that are `#CYCLE!` into a set, and takes the others out.
+fn restore_each(olds: &[(Cell, Kept)], cyclic: &mut CellSet)
     requires once { IsDistinct nat_eq (cells_in olds.now) }
-    requires inside { (c : ℕ) → In (cells_in olds.now) c → c < CELLS }
-    requires now { ShowCycle (shown_at shown.now) (shown_at shown.now) cells.old.items }
-    requires room { CELLS ≤ vec_capacity cells.old }
-    ensures both { ShowCycle (shown_at shown.now) (put_back olds.now (shown_at shown.now)) cells.new.items }
-    ensures room { vec_capacity cells.old ≤ vec_capacity cells.new }
+    ensures before { (w : Assignment) → ShowCycle w cyclic.old → ShowCycle (put_back olds.now w) cyclic.new }
 {
-    for entry in olds {
-        add_one_cyclic(entry, shown, cells);
+    for old in olds {
+        restore_one(old, cyclic);
     }
 }
 
-/// Adds the cell of an old value to a list if it showed `#CYCLE!` before and doesn't now.
-fn add_one_cyclic(old: &(Cell, Kept), shown: &Shown, cells: &mut Vec<Cell>)
-    requires room { was_cyclic old.now (shown_at shown.now) ≡ true
-        → length cells.old.items < vec_capacity cells.old }
-    ensures added { AddsCyclic old.now (shown_at shown.now) cells.old.items cells.new.items }
-    ensures room { vec_capacity cells.old ≤ vec_capacity cells.new }
+/// Puts the cell of an old value into a set if that is `#CYCLE!`, or else takes it out.
+fn restore_one(old: &(Cell, Kept), cyclic: &mut CellSet)
+    ensures { HoldsAsKept old.now cyclic.old cyclic.new }
 {
-    if was_cyclic(old, shown) {
-        cells.push_reserved(old.0);
+    if is_cycle(&old.1) {
+        cyclic.insert(old.0);
+    } else {
+        cyclic.remove(old.0);
     }
-}
-
-/// Whether the cell of an old value showed `#CYCLE!` before and doesn't now.
-fn was_cyclic(old: &(Cell, Kept), shown: &Shown) -> bool
-    ensures { result ≡ was_cyclic old.now (shown_at shown.now) }
-{
-    is_cycle(&old.1) && !is_cycle(shown.kept(old.0))
 }
 
 /// Lists the cells of old values that show another one now.

@@ -1,7 +1,7 @@
 //! What the cells of a sheet hold and show, with the tables that make a change cost only its region.
 
-ghost use Rattle.std.specs.Prelude.{◌≡◌, ◌+◌, ◌<◌, ◌≤◌, ◌++◌, ◌∷◌, [], ℕ, true, false, filter, length, nat_eq};
-ghost use Rattle.std.specs.Prelude.{not, vec_capacity, IfOk, IfErr, OnOk, OnErr};
+ghost use Rattle.std.specs.Prelude.{◌≡◌, ◌+◌, ◌<◌, ◌≤◌, ◌∷◌, [], ℕ, true, false, length, nat_eq, ◌&&◌, ◌||◌};
+ghost use Rattle.std.specs.Prelude.{not, IfOk, IfErr, OnOk, OnErr};
 ghost use Rattle.std.specs.List.{list_all, list_any};
 ghost use Rattle.ps_grid.specs.declared.parties.TheConstants.{WORKERS};
 ghost use Rattle.ps_shown.specs.Shown.{shown_at};
@@ -9,12 +9,12 @@ ghost use Rattle.ps_delta.specs.State.{State, empty_state, joined_state, state_a
 ghost use Rattle.ps_delta.specs.Deltas.{Entries, state_of};
 ghost use Rattle.ps_cells.specs.Recalculated.{IsRecalculated};
 ghost use Rattle.ps_cells.specs.Inside.Steps.{flag_at};
-ghost use Rattle.ps_cells.specs.Inside.Screens.{before_of, cells_in, ShowCycle};
+ghost use Rattle.ps_cells.specs.Inside.Screens.{before_of, cells_in};
 ghost use Rattle.ps_cells.specs.Inside.Kept.{IsWhole, MayRecalculate, Recalculates};
 ghost use Rattle.ps_cells.specs.Inside.Pending.{IsPending};
 ghost use Rattle.ps_cells.specs.Inside.Alone.{are_alone, firsts_by, is_alone};
-ghost use Rattle.ps_cells.specs.Inside.Waiting.{is_waiting};
 ghost use Rattle.ps_cells.specs.Inside.Walk.{formula_at};
+ghost use Rattle.ps_region.specs.CellSets.{has_cell};
 ghost use Rattle.ps_region.specs.Listed.{listed};
 
 use crate::change::{Beginning, Lists, begin, drop_formulas, take_formulas};
@@ -26,7 +26,7 @@ use ps_delta::{CellState, Delta, Grid};
 use ps_eval::Meter;
 use ps_grid::{CELLS, Cell, Refusal};
 use ps_index::Index;
-use ps_region::Region;
+use ps_region::{CellSet, Region};
 use ps_shown::Kept;
 use ps_workers::Gate;
 use std::alloc::Global;
@@ -46,8 +46,8 @@ pub(crate) struct Tables {
     region: Region,
     /// the cell that alone was touched when `region` was found, as long as that is still its region
     source: Option<Cell>,
-    /// the cells that show `#CYCLE!`, each once
-    pub(crate) cyclic: Vec<Cell>,
+    /// the cells that show `#CYCLE!`
+    pub(crate) cyclic: CellSet,
     /// which cells are due, while a change is made
     flags: Vec<bool>,
     /// the due cells of one level
@@ -95,7 +95,7 @@ impl Tables {
         ensures memory { IfErr result (λ e. e ≡ Refusal.Memory) }
     {
         let flags = no_flags(alloc, CELLS)?;
-        let cyclic = Vec::with_capacity(alloc, CELLS)?;
+        let cyclic = CellSet::new(alloc)?;
         let level = Level::new(alloc)?;
         Ok(Tables {
             grid: Grid::new(alloc)?,
@@ -175,9 +175,8 @@ impl Tables {
     {
         self.grid.exchange(olds);
         take_formulas(&mut self.index, olds);
-        self.shown.add_cyclic(&mut self.cyclic);
+        self.shown.restore_cyclic(&mut self.cyclic);
         self.shown.take_back();
-        keep_cyclic(&self.shown, &mut self.cyclic);
         self.source = None;
     }
 
@@ -196,7 +195,7 @@ impl Tables {
         requires may { MayRecalculate self.old (cells_in (firsts_by how first.old.items))
             (firsts_by how first.old.items) }
         requires touched { are_alone how ≡ false → touched.now ≡ cells_in (firsts_by how first.old.items) }
-        requires alone { are_alone how ≡ true → (self.old.cyclic.items ≡ [])
+        requires alone { are_alone how ≡ true → ((c : ℕ) → has_cell self.old.cyclic c ≡ false)
             × (list_all (is_alone (formula_at (state_at self.old.grid)) (listed self.old.index))
             (cells_in (firsts_by how first.old.items)) ≡ true) }
         ensures done { Recalculates self.old self.new (cells_in (firsts_by how first.old.items)) result.evaluated
@@ -218,7 +217,7 @@ impl Tables {
         requires may { MayRecalculate self.old (cell ∷ []) ((cell, kept) ∷ []) }
         requires alone { list_all (is_alone (formula_at (state_at self.old.grid)) (listed self.old.index)) (cell ∷ [])
             ≡ true }
-        requires none { self.old.cyclic.items ≡ [] }
+        requires none { (c : ℕ) → has_cell self.old.cyclic c ≡ false }
         ensures done { Recalculates self.old self.new (cell ∷ []) result.evaluated result.cyclic result.levels }
         ensures before { before_of self.new.shown ≡ before_of self.old.shown }
         ensures idle { result.evaluated ≡ 0 }
@@ -233,7 +232,7 @@ impl Tables {
         requires may { MayRecalculate self.old (cells_in first.old.items) first.old.items }
         requires alone { list_all (is_alone (formula_at (state_at self.old.grid)) (listed self.old.index))
             (cells_in first.old.items) ≡ true }
-        requires none { self.old.cyclic.items ≡ [] }
+        requires none { (c : ℕ) → has_cell self.old.cyclic c ≡ false }
         ensures done { Recalculates self.old self.new (cells_in first.old.items) result.evaluated result.cyclic
             result.levels }
         ensures before { before_of self.new.shown ≡ before_of self.old.shown }
@@ -268,7 +267,6 @@ impl Tables {
             &mut self.region,
             &mut self.source,
         );
-        let met = meets_cyclic(&self.region, &self.shown, &self.cyclic);
         show_all_first(
             &self.grid,
             &self.index,
@@ -296,7 +294,7 @@ impl Tables {
             meter,
         );
         clear(self.region.members(), &mut self.flags);
-        renew(&self.region, met, &mut self.cyclic);
+        renew(&self.region, &mut self.cyclic);
         Work {
             evaluated,
             cyclic: self.region.cyclic().len() as u64,
@@ -315,54 +313,21 @@ pub(crate) fn no_flags(alloc: Global, n: usize) -> Result<Vec<bool>, Refusal>
     Ok(flags)
 }
 
-/// Whether a cell of the region is listed as cyclic.
-fn meets_cyclic(region: &Region, shown: &Screen, cyclic: &[Cell]) -> bool
-    requires listed { ShowCycle (shown_at shown.now.kept) (shown_at shown.now.kept) cyclic.now }
-    ensures { result ≡ false
-        → filter (λ c. not (list_any (nat_eq c) region.now.members)) cyclic.now ≡ cyclic.now }
+/// Updates the set of the cyclic cells: those of the region are cyclic now where the region says so.
+fn renew(region: &Region, cyclic: &mut CellSet)
+    ensures { (c : ℕ) → has_cell cyclic.new c ≡ ((has_cell cyclic.old c && not (list_any (nat_eq c) region.now.members))
+        || list_any (nat_eq c) region.now.cyclic) }
 {
-    !cyclic.is_empty() && any_cyclic(shown, region.members())
+    leave_outside(region, cyclic);
+    cyclic.insert_all(region.cyclic());
 }
 
-/// Whether one of these cells shows `#CYCLE!`.
-fn any_cyclic(shown: &Screen, cells: &[Cell]) -> bool
-    ensures { result ≡ list_any (λ c. is_waiting (shown_at shown.now.kept c)) cells.now }
+/// Takes the cells of the region out of a set.
+fn leave_outside(region: &Region, cyclic: &mut CellSet)
+    ensures { (c : ℕ) → has_cell cyclic.new c ≡ (has_cell cyclic.old c
+        && not (list_any (nat_eq c) region.now.members)) }
 {
-    cells.iter().any(|c| shown.is_cyclic(*c))
-}
-
-/// Updates the list of the cyclic cells: those outside the region stay, and those of the region follow. If the region
-/// met none of the list, this costs only the region's cyclic cells.
-fn renew(region: &Region, met: bool, cyclic: &mut Vec<Cell>)
-    requires unmet { met ≡ false → filter (λ c. not (list_any (nat_eq c) region.now.members)) cyclic.old.items
-        ≡ cyclic.old.items }
-    requires room { length (filter (λ c. not (list_any (nat_eq c) region.now.members)) cyclic.old.items)
-        + length region.now.cyclic ≤ vec_capacity cyclic.old }
-    ensures items { cyclic.new.items ≡ filter (λ c. not (list_any (nat_eq c) region.now.members)) cyclic.old.items
-        ++ region.now.cyclic }
-    ensures room { vec_capacity cyclic.old ≤ vec_capacity cyclic.new }
-{
-    leave_outside(region, met, cyclic);
-    // never fails, since there is room for these
-    let _ = cyclic.extend_from_slice(region.cyclic());
-}
-
-/// Removes the cells of the region from a list; there are none if the region met none of the list.
-fn leave_outside(region: &Region, met: bool, cyclic: &mut Vec<Cell>)
-    requires unmet { met ≡ false → filter (λ c. not (list_any (nat_eq c) region.now.members)) cyclic.old.items
-        ≡ cyclic.old.items }
-    ensures items { cyclic.new.items ≡ filter (λ c. not (list_any (nat_eq c) region.now.members)) cyclic.old.items }
-    ensures room { vec_capacity cyclic.new ≡ vec_capacity cyclic.old }
-{
-    if met {
-        cyclic.retain(|c| !region.contains(*c));
+    if !cyclic.is_empty() {
+        cyclic.remove_all(region.members());
     }
-}
-
-/// Removes the cells that don't show `#CYCLE!` from a list.
-fn keep_cyclic(shown: &Screen, cells: &mut Vec<Cell>)
-    ensures items { cells.new.items ≡ filter (λ c. is_waiting (shown_at shown.now.kept c)) cells.old.items }
-    ensures room { vec_capacity cells.old ≤ vec_capacity cells.new }
-{
-    cells.retain(|c| shown.is_cyclic(*c));
 }

@@ -8,7 +8,7 @@ use crate::level::Level;
 use crate::screen::Screen;
 use ps_delta::{CellState, Grid};
 use ps_index::Index;
-use ps_region::Region;
+use ps_region::{CellSet, Region};
 
 /// What the bounds say of a type.
 fn is_send_and_sync<T: Send + Sync>()
@@ -25,5 +25,6 @@ pub fn cells_are_send()
     is_send_and_sync::<Index>();
     is_send_and_sync::<Screen>();
     is_send_and_sync::<Region>();
+    is_send_and_sync::<CellSet>();
     is_send_and_sync::<Level>();
 }

@@ -11,6 +11,8 @@ use Rattle.ps_join.specs.Joins.{IsJoined, IsStopped}
 use Rattle.ps_join.specs.declared.fault.End.{End}
 use Rattle.ps_peers.specs.Peers.{PeerView}
 use Rattle.ps_peers.specs.declared.peer_pull.SyncFault.{SyncFault}
+use Rattle.ps_squash.specs.declared.selection.Selection.{Selection}
+use Rattle.ps_words.specs.declared.options.SquashOptions.{SquashOptions}
 use Rattle.ps_commands.specs.Status.{sync_fault}
 use Rattle.ps_commands.specs.declared.fault.ProgramFault.{ProgramFault}
 use Rattle.ps_commands.specs.declared.fault.ProgramFault.TheVariants.{ReaderFailed, Refused}
@@ -20,6 +22,10 @@ pub record IsOpened (replica : ℕ) (sheet : SheetView) : Type 0 where
   pub is_sheet : IsSheet sheet
   pub history : sheet.history ≡ []
   pub replica_asked : sheet.replica ≡ replica
+
+-- what the options of `squash` ask for of the lines
+abbrev pub selection_of : SquashOptions → Selection
+selection_of options = record { until = options.until; without = options.without }
 
 -- so many rows and columns from A1 on
 abbrev pub from_first : ℕ → ℕ → Area

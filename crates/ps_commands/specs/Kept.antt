@@ -3,6 +3,7 @@ use Rattle.std.specs.Prelude.{◌≡◌, ◌⊎◌, ℕ, List, ⊤}
 use Rattle.ps_grid.specs.declared.refusal.Refusal.TheVariants.{Device, Memory}
 use Rattle.ps_sheet.specs.Sheet.{IsSheet, SheetView}
 use Rattle.ps_keep.specs.Journals.{JournalView}
+use Rattle.ps_keep.specs.declared.file.FileCause.{FileCause}
 use Rattle.ps_kept.specs.Kept.{IsKept, IsNoted}
 use Rattle.ps_kept.specs.Starts.{IsFaultOf, Reads}
 use Rattle.ps_kept.specs.declared.fault.KeepFault.TheVariants as keeps
@@ -39,12 +40,17 @@ abbrev pub TellsLoss : ProgramFault → Type 0
 TellsLoss fault =
     (fault ≡ Refused Device) ⊎ ((kept : FileNotTaken) × (kept.trouble ≡ troubles.Lost) × (fault ≡ KeptFailed kept))
 
+-- the fault reports why a file can't be used, or that allocation failed
+abbrev pub IsUnusable : ProgramFault → Type 0
+IsUnusable fault = (cause : FileCause) × TellsTrouble (troubles.Unusable cause) fault
+
 -- why a start of this replica refuses the bytes of a file: the first line that may not stand there, or the replica
 -- whose sheet it is
 abbrev pub IsTroubleOf : ℕ → List ℕ → KeptTrouble → Type 0
 IsTroubleOf replica bytes (troubles.Line number) = IsFaultOf replica bytes (keeps.Line number)
 IsTroubleOf replica bytes (troubles.Replica other) = IsFaultOf replica bytes (keeps.Replica other)
 IsTroubleOf replica bytes troubles.Busy = ⊥
+IsTroubleOf replica bytes (troubles.Unusable cause) = ⊥
 IsTroubleOf replica bytes troubles.Lost = ⊥
 
 -- why a start of this replica is refused with these bytes in its file: the bytes, out of memory, or a device that

@@ -8,14 +8,17 @@ use Rattle.ps_peers.specs.declared.peer_pull.SyncFault.TheVariants as syncs
 use Rattle.ps_session.specs.declared.transcript.RunFault.{RunFault}
 use Rattle.ps_session.specs.declared.transcript.RunFault.TheVariants as sessions
 use Rattle.ps_commands.specs.declared.fault.ProgramFault.{ProgramFault}
-use Rattle.ps_commands.specs.declared.fault.ProgramFault.TheVariants.{KeptFailed, PeerRefused, PortFailed, ReaderFailed, Refused}
+use Rattle.ps_commands.specs.declared.fault.ProgramFault.TheVariants.{KeptFailed, PeerRefused}
+use Rattle.ps_commands.specs.declared.fault.ProgramFault.TheVariants.{PortFailed, ReaderFailed, Refused}
 use Rattle.ps_commands.specs.declared.kept.KeptTrouble.{KeptTrouble}
 use Rattle.ps_commands.specs.declared.kept.KeptTrouble.TheVariants as troubles
 use Rattle.ps_commands.specs.declared.port.PortFault.{PortFault}
 
--- 1 if another program has the file or it keeps the sheet no longer, 3 if it doesn't have lines of the replica's sheet
+-- 1 if another program has the file, if it can't be used, or if it keeps the sheet no longer; 3 if it doesn't have
+-- lines of the replica's sheet
 abbrev pub kept_status : KeptTrouble → ℕ
 kept_status troubles.Busy = 1
+kept_status (troubles.Unusable cause) = 1
 kept_status troubles.Lost = 1
 kept_status _ = 3
 

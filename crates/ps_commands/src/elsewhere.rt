@@ -3,7 +3,7 @@
 //! They report the file that was opened, changes that the sheet's own replica made elsewhere, and connections that
 //! can't be accepted for now. No reply and no change depends on them. A line is lost if it can't be written, or if
 //! allocation fails.
-use crate::explain::Onlooker;
+use crate::explain::Observer;
 use crate::fault::ProgramFault;
 use crate::kept::OpenedFile;
 use crate::notice::tell_line;
@@ -91,8 +91,6 @@ impl<'a, W: Write + Drop> Warner<'a, W> {
 
 impl<W: Write + Drop> Warn for Warner<'_, W> {
     /// Writes the warning of the replica, unless it was written already.
-    ///
-    /// Cost: constant, and what the writer takes.
     fn warn(&mut self) {
         if let (Some(number), Some(out)) = (self.elsewhere.take(), self.out.as_mut()) {
             tell_line(self.alloc, &number, out);
@@ -100,8 +98,6 @@ impl<W: Write + Drop> Warn for Warner<'_, W> {
     }
 
     /// Writes the warning of connections, unless it was written already.
-    ///
-    /// Cost: constant, and what the writer takes.
     fn warn_of_crowd(&mut self) {
         if let (Some(crowded), Some(out)) = (self.crowded.take(), self.out.as_mut()) {
             tell_line(self.alloc, &crowded, out);
@@ -110,8 +106,6 @@ impl<W: Write + Drop> Warn for Warner<'_, W> {
 }
 
 /// Reports the opened file on `out`, and returns a [`Warner`] that writes there too.
-///
-/// Cost: constant, and what the writer takes.
 pub fn tell_opened<'a, W: Write + Drop>(
     alloc: Global,
     path: &'a str,
@@ -127,29 +121,29 @@ pub fn tell_opened<'a, W: Write + Drop>(
 
 /// An observer of a session of a sheet that is stored in a file.
 ///
-/// It does what an [`Onlooker`] does. It also warns at once when a line pushes changes of the sheet's own replica that
+/// It does what an [`Observer`] does. It also warns at once when a line pushes changes of the sheet's own replica that
 /// the sheet doesn't have.
 #[derive(Drop)]
-pub struct KeptOnlooker<'a, W: Write + Drop> {
-    onlooker: Onlooker<W>,
+pub struct KeptObserver<'a, W: Write + Drop> {
+    observer: Observer<W>,
     warner: Warner<'a, W>,
 }
 
-impl<'a, W: Write + Drop> KeptOnlooker<'a, W> {
-    /// Creates an observer that forwards to `onlooker` and warns through `warner`.
-    pub fn new(onlooker: Onlooker<W>, warner: Warner<'a, W>) -> KeptOnlooker<'a, W> {
-        KeptOnlooker { onlooker, warner }
+impl<'a, W: Write + Drop> KeptObserver<'a, W> {
+    /// Creates an observer that forwards to `observer` and warns through `warner`.
+    pub fn new(observer: Observer<W>, warner: Warner<'a, W>) -> KeptObserver<'a, W> {
+        KeptObserver { observer, warner }
     }
 
-    /// Ends the session, as [`Onlooker::end`] does.
+    /// Ends the session, as [`Observer::end`] does.
     pub fn end(&self, strict: bool) -> Result<(), ProgramFault> {
-        self.onlooker.end(strict)
+        self.observer.end(strict)
     }
 }
 
-impl<W: Write + Drop> Watcher for KeptOnlooker<'_, W> {
+impl<W: Write + Drop> Watcher for KeptObserver<'_, W> {
     fn saw(&mut self, line: &[u8], outcome: Outcome) {
-        self.onlooker.saw(line, outcome);
+        self.observer.saw(line, outcome);
         if let Outcome::Elsewhere = outcome {
             self.warner.warn();
         }

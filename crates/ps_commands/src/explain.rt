@@ -17,7 +17,7 @@ use std::io::Write;
 /// In a session it also counts the lines. In a table it writes about each field that looks like a number or a formula
 /// but is a text. Its note about the first refused field is the last one.
 #[derive(Drop)]
-pub struct Onlooker<W: Write + Drop> {
+pub struct Observer<W: Write + Drop> {
     alloc: Global,
     /// The writer of the notes, if any are to be written.
     out: Option<W>,
@@ -27,10 +27,10 @@ pub struct Onlooker<W: Write + Drop> {
     refused: u64,
 }
 
-impl<W: Write + Drop> Onlooker<W> {
-    /// Returns an onlooker that has seen nothing and writes notes to `out`. Without `out` it only counts.
-    pub fn new(alloc: Global, out: Option<W>) -> Onlooker<W> {
-        Onlooker {
+impl<W: Write + Drop> Observer<W> {
+    /// Returns an observer that has seen nothing and writes notes to `out`. Without `out` it only counts.
+    pub fn new(alloc: Global, out: Option<W>) -> Observer<W> {
+        Observer {
             alloc,
             out,
             lines: 0,
@@ -48,12 +48,12 @@ impl<W: Write + Drop> Onlooker<W> {
 
     /// Returns the writer of the notes, if there is one.
     pub fn into_out(self) -> Option<W> {
-        let Onlooker { out, .. } = self;
+        let Observer { out, .. } = self;
         out
     }
 }
 
-impl<W: Write + Drop> Watcher for Onlooker<W> {
+impl<W: Write + Drop> Watcher for Observer<W> {
     #[inline]
     fn saw(&mut self, line: &[u8], outcome: Outcome) {
         self.lines = self.lines.saturating_add(1);
@@ -85,7 +85,7 @@ fn tell_hint<W: Write>(
     }
 }
 
-impl<W: Write + Drop> TableWatcher for Onlooker<W> {
+impl<W: Write + Drop> TableWatcher for Observer<W> {
     fn saw_field(&mut self, cell: Cell, field: &[u8], refusal: Option<Refusal>) {
         if let Some(out) = &mut self.out {
             if let Some(note) = field_note(cell, field, refusal) {

@@ -1,7 +1,7 @@
 //! The file that a sheet is kept in, and why it isn't taken.
 ghost use Rattle.std.specs.Prelude.{◌≡◌, ◌⊎◌, ℕ, List, IfErr, IfOk};
 ghost use Rattle.ps_kept.specs.Starts.{Reads};
-ghost use Rattle.ps_commands.specs.Kept.{IsFileRefusal, IsKeptSheet, TellsLoss, TellsTrouble};
+ghost use Rattle.ps_commands.specs.Kept.{IsFileRefusal, IsKeptSheet, IsUnusable, TellsLoss, TellsTrouble};
 ghost use Rattle.ps_commands.specs.Status.{kept_status};
 ghost use Rattle.ps_commands.specs.declared.fault.ProgramFault.TheVariants.{Refused};
 
@@ -9,7 +9,7 @@ use crate::fault::ProgramFault;
 use crate::squash::squash_first;
 use ps_eval::Meter;
 use ps_grid::Refusal;
-use ps_keep::{FileFault, Found, FoundFile, KeptFile};
+use ps_keep::{FileCause, FileFault, Found, FoundFile, KeptFile};
 use ps_kept::{KeepFault, SheetKeeper, open_kept};
 use ps_session::Resources;
 use ps_sheet::Sheet;
@@ -30,6 +30,8 @@ pub enum KeptTrouble {
     Replica(u8),
     /// Another program keeps it.
     Busy,
+    /// It can't be opened, read or written.
+    Unusable(FileCause),
     /// While it kept a sheet it couldn't be written, or it was removed, replaced or cut.
     Lost,
 }
@@ -45,12 +47,13 @@ pub struct FileNotTaken {
 }
 
 impl FileNotTaken {
-    /// The exit status: 1 where another program keeps the file or it keeps the sheet no longer, else 3.
+    /// Returns the exit status: 1 if another program keeps the file, if it can't be used, or if it keeps the sheet no
+    /// longer; else 3.
     pub fn status(&self) -> u8
         ensures { result ≡ kept_status self.now.trouble }
     {
         match self.trouble {
-            KeptTrouble::Busy | KeptTrouble::Lost => 1,
+            KeptTrouble::Busy | KeptTrouble::Unusable(_) | KeptTrouble::Lost => 1,
             KeptTrouble::Line(_) | KeptTrouble::Replica(_) => 3,
         }
     }
@@ -60,6 +63,10 @@ impl fmt::Display for FileNotTaken {
     fn fmt<W: fmt::Write>(&self, f: &mut fmt::Formatter<W>) -> fmt::Result {
         let path = self.path.as_str();
         match self.trouble {
+            KeptTrouble::Line(1) => {
+                let refusal = Refusal::Delta;
+                write!(f, "{refusal}\nline 1 of {path}: it is no kept sheet")
+            }
             KeptTrouble::Line(number) => {
                 let refusal = Refusal::Delta;
                 write!(f, "{refusal}\nline {number} of {path}")
@@ -71,6 +78,10 @@ impl fmt::Display for FileNotTaken {
             KeptTrouble::Busy => {
                 let refusal = Refusal::Device;
                 write!(f, "{refusal}\n{path} is kept by another program")
+            }
+            KeptTrouble::Unusable(cause) => {
+                let refusal = Refusal::Device;
+                write!(f, "{refusal}\n{path}: {cause}")
             }
             KeptTrouble::Lost => {
                 let refusal = Refusal::Device;
@@ -106,8 +117,8 @@ pub fn lost_file(alloc: Global, path: &str) -> ProgramFault
     }
 }
 
-/// Opens the file of this path, or makes it, and reads it. A file that another program keeps is a fault of its own.
-/// Refused as `Device` where it is no regular file or can't be opened for reading and writing, and as `Memory`.
+/// Opens the file of this path, or makes it, and reads it. A file that another program keeps is a fault of its own, and
+/// so is one that is no regular file, or can't be opened for reading and writing. Refused as `Memory`.
 ///
 /// Cost: linear in the file, and its memory.
 pub(crate) fn open_file<R: Files<File = File>>(
@@ -115,12 +126,14 @@ pub(crate) fn open_file<R: Files<File = File>>(
     alloc: Global,
     path: &str,
 ) -> Result<FoundFile, ProgramFault>
-    ensures refused { IfErr result (λ f. (f ≡ Refused Refusal.Device) ⊎ TellsTrouble KeptTrouble.Busy f) }
+    ensures refused { IfErr result (λ f. IsUnusable f ⊎ TellsTrouble KeptTrouble.Busy f) }
 {
     match FoundFile::open(rt, alloc, path) {
         Ok(found) => Ok(found),
         Err(FileFault::Memory) => Err(ProgramFault::Refused(Refusal::Memory)),
-        Err(FileFault::Device) => Err(ProgramFault::Refused(Refusal::Device)),
+        Err(FileFault::Device(cause)) => {
+            Err(not_taken(alloc, path, KeptTrouble::Unusable(cause)))
+        }
         Err(FileFault::Busy) => Err(not_taken(alloc, path, KeptTrouble::Busy)),
     }
 }
@@ -174,7 +187,8 @@ pub fn keep_sheet<R: Threads + Sync, F: Found + Drop, L: Ledger>(
 ///
 /// - [`ProgramFault::KeptFailed`] if another program has the file, a line may not stand there, or the file is another
 ///   replica's.
-/// - `Device` if it is no regular file, can't be opened for reading and writing, or the device fails.
+/// - [`ProgramFault::KeptFailed`], too, if it is no regular file, or can't be opened for reading and writing.
+/// - `Device` if the device fails.
 /// - `Memory`.
 ///
 /// Cost: that of [`keep_sheet`], and the memory of the file's bytes.
@@ -186,7 +200,7 @@ pub fn open_kept_sheet<R: Files<File = File> + Threads + Sync, L: Ledger>(
 ) -> Result<(Sheet, SheetKeeper<KeptFile>), ProgramFault>
     ensures read { IfOk result (λ r. (bytes : List ℕ) × Reads options.replica bytes r.0.history) }
     ensures kept { IfOk result (λ r. IsKeptSheet options.replica options.workers r.0 r.1) }
-    ensures refused { IfErr result (λ f. (f ≡ Refused Refusal.Device) ⊎ TellsTrouble KeptTrouble.Busy f
+    ensures refused { IfErr result (λ f. IsUnusable f ⊎ TellsTrouble KeptTrouble.Busy f
         ⊎ ((bytes : List ℕ) × IsFileRefusal options.replica bytes f)) }
 {
     if options.squash {

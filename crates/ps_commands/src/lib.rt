@@ -13,7 +13,8 @@
 //! - [`serve_kept`]: at its end the journal has all of the sheet.
 //! - [`sync_on`], [`follow_on`] and [`talk_on`]: as `sync`, `follow` and `ask_lines` of `ps_peers`, at ports.
 //! - [`join_once_on`] and [`join_on`]: as `join_once` and `join` of `ps_join`, at ports.
-//! - [`squash_on`]: what was written is what `ps_squash` defines for the lines.
+//! - [`check_on`]: as `compare` of `ps_step`, at ports. What was written says which cells differ.
+//! - [`squash_on`] and [`squash_part_on`]: what was written is what `ps_squash` defines for the lines.
 //!
 //! A [`ProgramFault`] is what ends the program early, and [`status_of`] returns its exit status. It is 1 if a device
 //! failed, a port can't be used or another program has the file, and else 3. [`port_fault`] returns why a port can't be
@@ -28,6 +29,7 @@
 //! Cost: that of the sessions, or of an import and an export.
 #![tactic(auto)]
 
+mod check;
 mod elsewhere;
 mod ends;
 mod explain;
@@ -48,8 +50,9 @@ mod table;
 mod talk;
 mod unfreed;
 
-pub use elsewhere::{Crowded, KeptOnlooker, NumberElsewhere, Warner, tell_opened};
-pub use explain::Onlooker;
+pub use check::check_on;
+pub use elsewhere::{Crowded, KeptObserver, NumberElsewhere, Warner, tell_opened};
+pub use explain::Observer;
 pub use fault::{ProgramFault, status_of};
 pub use follow::follow_on;
 pub use join::{join_on, join_once_on};
@@ -57,7 +60,7 @@ pub use kept::{FileNotTaken, KeptTrouble, OpenedFile, keep_sheet, lost_file, ope
 pub use listening::{serve, serve_kept};
 pub use port::{PageAddress, PortFault, PortTrouble, port_fault};
 pub use run::{answer_kept, answer_lines, open_sheet};
-pub use squash::{SquashedFile, squash_kept, squash_on};
+pub use squash::{SquashedFile, squash_kept, squash_on, squash_part_on, tell_left_out};
 pub use sync::sync_on;
 pub use table::table_on;
 pub use talk::talk_on;

@@ -4,6 +4,8 @@ ghost use Rattle.std.specs.Io.KnownBytes.{Appends, Consumes, IsAtEnd};
 ghost use Rattle.ps_grid.specs.declared.parties.TheConstants.{REPLICAS};
 ghost use Rattle.ps_grid.specs.declared.refusal.Refusal.TheVariants as refusals;
 ghost use Rattle.ps_squash.specs.Squashed.{FirstFault, HasWideCell, IsSquashed};
+ghost use Rattle.ps_squash.specs.Selected.{HasWideCellInPart, IsSquashedInPart};
+ghost use Rattle.ps_commands.specs.Commands.{selection_of};
 ghost use Rattle.ps_commands.specs.declared.fault.ProgramFault.TheVariants.{DeltaRefused, Refused};
 
 use crate::fault::ProgramFault;
@@ -12,15 +14,16 @@ use crate::notice::tell_line;
 use ps_device::{Sink, Source};
 use ps_eval::Meter;
 use ps_grid::Refusal;
-use ps_keep::{Found, first_line};
+use ps_keep::{FileCause, Found, first_line};
 use ps_lines::{KeptLine, read_kept_line};
 use ps_session::Resources;
 use ps_shorten::{NamedFile, ShortenFault, Shortened, Shortening, Worth, shorten};
-use ps_squash::{SquashFault, squash};
+use ps_squash::{LeftOut, Selection, SquashFault, squash, squash_in_part};
 use ps_wire::Decoder;
+use ps_words::SquashOptions;
 use std::alloc::{AllocError, Global};
 use std::fmt;
-use std::fs::{File, exists};
+use std::fs::File;
 use std::io::Write;
 use std::rt::Files;
 use std::sync::ledger::Ledger;
@@ -73,6 +76,95 @@ pub fn squash_on<S: Source, K: Sink>(
     }
 }
 
+/// Returns what the options ask for of the lines.
+fn selection_of(options: SquashOptions<'_>) -> Selection
+    ensures { result ≡ selection_of options.entry }
+{
+    let until = match options.until {
+        Some(count) => Some(u64::from(count)),
+        None => None,
+    };
+    Selection {
+        until,
+        without: options.without,
+    }
+}
+
+/// Does as [`squash_on`] with the part of the lines that the options ask for, and returns what was left out.
+///
+/// # Errors
+///
+/// Those of [`squash_on`].
+///
+/// Cost: that of [`squash_in_part`].
+pub fn squash_part_on<S: Source, K: Sink>(
+    alloc: Global,
+    source: &mut S,
+    sink: &mut K,
+    options: SquashOptions<'_>,
+) -> Result<LeftOut, ProgramFault>
+    ensures squashed { OnOk result ((read : List ℕ) × (text : List ℕ)
+        × Consumes (S.remaining source.old) (S.remaining source.new) read × IsAtEnd (S.remaining source.new)
+        × IsSquashedInPart (selection_of options.entry) read text
+        × Appends (K.contents sink.old) (K.contents sink.new) text) }
+    ensures flushed { OnOk result (K.waiting sink.new ≡ []) }
+    ensures calm { OnOk result ((S.failures source.new ≡ S.failures source.old)
+        × (K.failures sink.new ≡ K.failures sink.old)) }
+    ensures faulty { (number : ℕ) → result ≡ Err (DeltaRefused number)
+        → (read : List ℕ) × Consumes (S.remaining source.old) (S.remaining source.new) read
+        × FirstFault (IsAtEnd (S.remaining source.new)) read number }
+    ensures wide { result ≡ Err (Refused refusals.TooLong)
+        → (read : List ℕ) × Consumes (S.remaining source.old) (S.remaining source.new) read
+        × IsAtEnd (S.remaining source.new) × HasWideCellInPart (selection_of options.entry) read }
+    ensures unwritten { IfErr result (λ f. f ≢ Refused refusals.Device → sink.new ≡ sink.old) }
+{
+    match squash_in_part(alloc, source, sink, selection_of(options)) {
+        Ok(left_out) => Ok(left_out),
+        Err(SquashFault::Line(number)) => Err(ProgramFault::DeltaRefused(number)),
+        Err(SquashFault::TooLong) => Err(ProgramFault::Refused(Refusal::TooLong)),
+        Err(SquashFault::Memory) => Err(ProgramFault::Refused(Refusal::Memory)),
+        Err(SquashFault::Source) => Err(ProgramFault::Refused(Refusal::Device)),
+        Err(SquashFault::Sink) => Err(ProgramFault::Refused(Refusal::Device)),
+    }
+}
+
+/// The lines that were left out: a line for standard error, without its line feed.
+#[derive(Clone, Copy, Debug)]
+struct LostLines(LeftOut);
+
+impl fmt::Display for LostLines {
+    fn fmt<W: fmt::Write>(&self, f: &mut fmt::Formatter<W>) -> fmt::Result {
+        let LeftOut { read, lines, .. } = self.0;
+        write!(f, "squash: left out {lines} of {read} lines")
+    }
+}
+
+/// The cells that lost a part: a line for standard error, without its line feed.
+#[derive(Clone, Copy, Debug)]
+struct LostParts(LeftOut);
+
+impl fmt::Display for LostParts {
+    fn fmt<W: fmt::Write>(&self, f: &mut fmt::Formatter<W>) -> fmt::Result {
+        let LeftOut { cells, .. } = self.0;
+        write!(f, "squash: left out parts of {cells} cells")
+    }
+}
+
+/// Tells what was left out as the options asked for it.
+pub fn tell_left_out<W: Write>(
+    alloc: Global,
+    options: SquashOptions<'_>,
+    left_out: LeftOut,
+    told: &mut W,
+) {
+    if options.until.is_some() {
+        tell_line(alloc, &LostLines(left_out), told);
+    }
+    if options.without.is_some() {
+        tell_line(alloc, &LostParts(left_out), told);
+    }
+}
+
 /// What was squashed: a line for standard error, without its line feed.
 #[derive(Clone, Copy, Debug)]
 pub struct SquashedFile<'a> {
@@ -120,9 +212,9 @@ fn replica_told(alloc: Global, bytes: &[u8]) -> Result<u8, AllocError>
 ///
 /// # Errors
 ///
-/// - [`ProgramFault::KeptFailed`] if another program has the file, or a line may not stand there or ends in a carriage
-///   return.
-/// - `Device` if there is no such file, it is no regular one, or it can't be read or replaced.
+/// - [`ProgramFault::KeptFailed`] if another program has the file, a line may not stand there or ends in a carriage
+///   return, there is no such file, it is no regular one, or it can't be read.
+/// - `Device` if it can't be replaced.
 /// - `TooLong` if the file holds more of one cell than a line has room for.
 /// - `Memory`.
 ///
@@ -135,9 +227,12 @@ pub fn squash_kept<R: Files<File = File> + Threads + Sync, L: Ledger, W: Write>(
 ) -> Result<(), ProgramFault> {
     let Resources { threads, alloc } = resources;
     // (opened, it would be made)
-    match exists(threads, path) {
-        Ok(true) => {}
-        Ok(false) | Err(_) => return Err(ProgramFault::Refused(Refusal::Device)),
+    match threads.metadata(path) {
+        Ok(_) => {}
+        Err(error) => {
+            let trouble = KeptTrouble::Unusable(FileCause::of(&error));
+            return Err(not_taken(alloc, path, trouble));
+        }
     }
     let found = match open_file(threads, alloc, path) {
         Ok(found) => found,

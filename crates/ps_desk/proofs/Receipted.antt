@@ -150,9 +150,9 @@ stands_there M h seen now seat r a =
     let before : List Entries = history_of h a.before in
     let all : history_of h now ≡ before ++ a.patch.delta ∷ [] =
     ap (history_of h) a.last ∙ history_push h a.before a.patch in
-    let place : r.number - 1 ≡ length before = omega (arith, a.number) in (
+    let position : r.number - 1 ≡ length before = omega (arith, a.number) in (
       omega (arith, a.number),
       omega (arith, a.number, ap length all, length-append before (a.patch.delta ∷ [])),
-      ap (λ n. get_or (history_of h now) n []) place ∙ ap (λ xs. get_or xs (length before) []) all
+      ap (λ n. get_or (history_of h now) n []) position ∙ ap (λ xs. get_or xs (length before) []) all
           ∙ get_or-append_seam before a.patch.delta [] [] ∙ a.delta,
     )

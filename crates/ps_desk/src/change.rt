@@ -21,7 +21,7 @@ use crate::pass::Pass;
 use crate::patch::{patch_of_listed, patch_of_one};
 use crate::receipt::Standing;
 use crate::showing::Showing;
-use crate::shown_place::ShownPlace;
+use crate::shown_position::ShownPosition;
 use ps_delta::Delta;
 use ps_face::{FaceWriter, Patch};
 use ps_grid::{Cell, Refusal, Twin};
@@ -58,7 +58,7 @@ pub(crate) fn note_shown<L: DeskName, W: Wait + Drop, V: Wait>(
         Showing::AtOnce => {
             // for the fact that the list is legal
             let _ = copies.front();
-            let shown = ShownPlace::new(&copies.shown());
+            let shown = ShownPosition::new(&copies.shown());
             let _ = pass.note_shown(wait, &shown);
         }
         Showing::Later => {}

@@ -9,7 +9,7 @@ ghost use Rattle.ps_desk.specs.Closing.{EndsAt, HistoryBegins, IsClosed, appende
 use crate::desk::Desk;
 use crate::name::DeskName;
 use crate::pass::Pass;
-use crate::shown_place::ShownPlace;
+use crate::shown_position::ShownPosition;
 use ps_face::BookPrefix;
 use ps_sheet::Sheet;
 use std::sync::Wait;
@@ -43,7 +43,7 @@ impl<L: DeskName, W: Wait + Drop> Desk<L, W> {
         self,
         wait: &V,
         passes: Vec<Pass<L>>,
-        place: &mut ShownPlace<L>,
+        position: &mut ShownPosition<L>,
     ) -> Sheet
         requires passes { vec_len passes ≡ self }
         ensures replica { result.replica ≡ L.replica }
@@ -51,16 +51,16 @@ impl<L: DeskName, W: Wait + Drop> Desk<L, W> {
         ensures grown { length result.history ≡ length L.opening + appended_of passes.items }
         ensures one { IsClosed L.opening result.history passes.items }
         ensures sheet { IsSheet result }
-        ensures later { IsPrefix place.old place.new }
-        ensures end { result.history ≡ history_of L.opening place.new }
+        ensures later { IsPrefix position.old position.new }
+        ensures end { result.history ≡ history_of L.opening position.new }
     {
         let (sheet, shown) = self.end(wait, passes);
-        place.catch_up(wait, shown);
+        position.catch_up(wait, shown);
         sheet
     }
 
     /// Ends the desk, and returns its sheet with the end of its list, which is shown in full.
-    fn end<V: Wait>(self, wait: &V, passes: Vec<Pass<L>>) -> (Sheet, ShownPlace<L>)
+    fn end<V: Wait>(self, wait: &V, passes: Vec<Pass<L>>) -> (Sheet, ShownPosition<L>)
         requires passes { vec_len passes ≡ self }
         ensures replica { result.0.replica ≡ L.replica }
         ensures begins { HistoryBegins L.opening result.0.history passes.items }

@@ -18,10 +18,10 @@ ghost use Rattle.ps_desk.specs.Receipts.{IsAppended, IsReceipt, Stands};
 use crate::change::share;
 use crate::name::DeskName;
 use crate::pass::Pass;
-use crate::presence::Presence;
+use crate::presence::{Alarm, Presence};
 use crate::receipt::{Receipt, Standing};
 use crate::showing::Showing;
-use crate::shown_place::ShownPlace;
+use crate::shown_position::ShownPosition;
 use crate::state::DeskState;
 use ps_delta::{Change, Delta, Edit};
 use ps_eval::Meter;
@@ -32,15 +32,18 @@ use std::marker::Model;
 use std::sync::ledger::Ledger;
 use std::sync::{Condvar, CondvarTimeouts, Mutex, Wait};
 use std::thread::Threads;
-use std::time::{Clock, Duration};
+use std::time::{Clock, Duration, Instant};
 
-/// How many slices of time a session waits for more changes at most, 25 seconds in all.
-const SLICES: u32 = 250;
+/// How long a session waits for more changes at most, in seconds.
+const LONGEST: u64 = 25;
 
-/// The milliseconds of a slice.
+/// How long it sleeps at a time where it has to look at its peer, in milliseconds.
 const SLICE: u64 = 100;
 
-/// A sheet that several sessions share, each by its pass. A contract sees it as the number of its seats.
+/// How many times it sleeps at most.
+const MOST_SLEEPS: u32 = 250;
+
+/// A sheet that several sessions share, each by its pass. A contract sees it as the number of its slots.
 #[derive(Drop)]
 pub struct Desk<L: DeskName, W: Wait + Drop> {
     state: Mutex<DeskState<L, W>>,
@@ -96,8 +99,6 @@ impl<L: DeskName, W: Wait + Drop> Desk<L, W> {
     }
 
     /// The replica of the sheet. It waits for nobody.
-    ///
-    /// Cost: constant.
     pub fn replica(&self) -> u8
         ensures replica { result ≡ L.replica }
     {
@@ -106,8 +107,8 @@ impl<L: DeskName, W: Wait + Drop> Desk<L, W> {
 
     /// Makes the delta of an edit over the sheet's state, appends it to the history, and shows it to all readers.
     ///
-    /// The program calls neither this nor [`Desk::receive`], since a `Seat` needs no delta in return. They are public
-    /// for callers that want the receipt.
+    /// This and [`Desk::receive`] are for callers that want the delta back. The program calls neither: a
+    /// [`crate::Seat`] makes its changes by `change`, which does the same without the delta.
     ///
     /// Refused as [`ps_sheet::Sheet::edit`] is, over the history that the pass has then seen. Where there is such a
     /// delta, it may also fail when out of memory. It may wait for other calls, and for readers of what was published
@@ -220,7 +221,7 @@ impl<L: DeskName, W: Wait + Drop> Desk<L, W> {
     /// changes, too. It may wait for other calls, and for readers of what was shown before.
     ///
     /// Cost: that of publishing, which is a constant for each slot; constant where nothing waits.
-    pub fn show<V: Wait>(&self, wait: &V, pass: &mut Pass<L>) -> ShownPlace<L>
+    pub fn show<V: Wait>(&self, wait: &V, pass: &mut Pass<L>) -> ShownPosition<L>
         ensures shown { result ≡ pass.old.list }
         ensures same { pass.new ≡ pass.old }
     {
@@ -235,7 +236,7 @@ impl<L: DeskName, W: Wait + Drop> Desk<L, W> {
     ///
     /// It may wait for other calls.
     ///
-    /// Cost: constant, or that of [`Desk::show`] where some of it waits to be shown.
+    /// Cost: that of [`Desk::show`], if some of it waits to be shown.
     pub fn count<V: Wait>(&self, wait: &V, pass: &mut Pass<L>) -> u64
         ensures later { IsPrefix pass.old.list pass.new.list }
         ensures legal { IsLegal L.opening pass.new.list }
@@ -250,21 +251,35 @@ impl<L: DeskName, W: Wait + Drop> Desk<L, W> {
         state.version()
     }
 
-    /// Returns the number of changes in the history, once there are more than `seen`, or after `patience`. The caller
-    /// needs no session slot, and no pass sees more because of it.
+    /// Returns the number of changes in the history, once there are more than `seen`, or after `patience`, or once the
+    /// alarm is raised. The caller needs no session slot, and no pass sees more because of it.
     ///
     /// It holds no lock while it waits. It changes nothing, and shows what waits to be shown. Where the desk is kept in
     /// a file, the last changes may be shown and not durable yet.
     ///
     /// Cost: the time that it waits.
-    pub fn news<V: Wait + Clock>(&self, wait: &V, seen: u64, patience: Duration) -> u64
+    pub fn news<V: Wait + Clock>(
+        &self,
+        wait: &V,
+        seen: u64,
+        patience: Duration,
+        alarm: &Alarm,
+    ) -> u64
         ensures there { (list : List Note) × IsLegal L.opening list
             × (result ≡ length (history_of L.opening list)) }
     {
-        let _ = self.has_more(wait, seen, patience);
+        let _ = self.has_more(wait, seen, patience, alarm);
         let mut state = self.state.lock(wait);
         let _ = state.show();
         state.version()
+    }
+
+    /// Raises an alarm, and ends the wait of those who heed it. It may wait for other calls.
+    pub fn raise<V: Wait>(&self, wait: &V, alarm: &Alarm) {
+        alarm.raise();
+        // who looked at it before this sleeps by now, and is woken
+        drop(self.state.lock(wait));
+        self.grown.notify_all();
     }
 
     /// Wakes all who wait for changes, where some are shown that weren't.
@@ -277,22 +292,52 @@ impl<L: DeskName, W: Wait + Drop> Desk<L, W> {
     /// Waits until the history has more changes than `seen`, until the peer of a session waits no longer, or for 25
     /// seconds. It holds no lock meanwhile, and changes nothing.
     ///
-    /// Cost: the time that it waits, and a look at the peer ten times a second.
+    /// Cost: the time that it waits; where no lookout watches the peer, also a look at it ten times a second.
     pub(crate) fn linger<V: Wait + Clock>(&self, wait: &V, seen: u64, presence: Presence<'_>) {
-        for _ in 0..SLICES {
-            if self.has_more(wait, seen, Duration::from_millis(SLICE)) || !presence.is_waiting() {
-                return;
+        let never = Alarm::new();
+        let mut left = Duration::from_secs(LONGEST);
+        if self.has_more(wait, seen, Duration::ZERO, &never) {
+            return;
+        }
+        for _ in 0..MOST_SLEEPS {
+            let begun = Instant::now(wait);
+            let watched = presence.watch();
+            let patience = match watched {
+                Some(_) => left,
+                None => left.min(Duration::from_millis(SLICE)),
+            };
+            let alarm = match watched {
+                Some(alarm) => alarm,
+                None => &never,
+            };
+            let has_more = self.has_more(wait, seen, patience, alarm);
+            if has_more || !presence.is_waiting() {
+                break;
+            }
+            left = match begun {
+                Ok(begun) => left_after(wait, left, begun),
+                Err(_) => Duration::ZERO,
+            };
+            if left.is_zero() {
+                break;
             }
         }
+        presence.unwatch();
     }
 
-    /// Waits until the history has more changes than `seen`, or for `patience`, and returns whether it has.
-    fn has_more<V: Wait + Clock>(&self, wait: &V, seen: u64, patience: Duration) -> bool {
+    /// Waits until the history has more changes than `seen`, for `patience`, or until the alarm is raised, and returns
+    /// whether it has more.
+    fn has_more<V: Wait + Clock>(
+        &self,
+        wait: &V,
+        seen: u64,
+        patience: Duration,
+        alarm: &Alarm,
+    ) -> bool {
         let state = self.state.lock(wait);
-        let lacks = |state: &mut DeskState<L, W>| state.version() <= seen;
-        let (state, ended) = self.grown.wait_timeout_while(wait, state, patience, lacks);
-        drop(state);
-        !ended.timed_out()
+        let lacks = |state: &mut DeskState<L, W>| state.version() <= seen && !alarm.is_raised();
+        let (state, _) = self.grown.wait_timeout_while(wait, state, patience, lacks);
+        state.version() > seen
     }
 
     /// Returns the deltas of the history after the number `from`, in order, at most `at_most` of them. The pass has
@@ -339,21 +384,21 @@ impl<L: DeskName, W: Wait + Drop> Desk<L, W> {
         &self,
         wait: &V,
         alloc: Global,
-        place: &mut ShownPlace<L>,
+        position: &mut ShownPosition<L>,
         from: u64,
     ) -> Result<Vec<Delta>, Refusal>
-        ensures later { IsPrefix place.old place.new }
-        ensures legal { IsLegal L.opening place.new }
-        ensures deltas { IfOk result (λ ds. ds.items ≡ drop from (history_of L.opening place.new)) }
-        ensures bound { IfOk result (λ _. length (history_of L.opening place.new) < 2 ^ 64) }
+        ensures later { IsPrefix position.old position.new }
+        ensures legal { IsLegal L.opening position.new }
+        ensures deltas { IfOk result (λ ds. ds.items ≡ drop from (history_of L.opening position.new)) }
+        ensures bound { IfOk result (λ _. length (history_of L.opening position.new) < 2 ^ 64) }
         ensures refused { IfErr result (λ e. (e ≡ Memory)
-            ⊎ ((e ≡ Version) × (length (history_of L.opening place.new) < from))) }
-        ensures asked { IfErr result (λ e. e ≡ Memory → from < length (history_of L.opening place.new)) }
+            ⊎ ((e ≡ Version) × (length (history_of L.opening position.new) < from))) }
+        ensures asked { IfErr result (λ e. e ≡ Memory → from < length (history_of L.opening position.new)) }
     {
         let mut state = self.state.lock(wait);
         let had_hidden = state.has_hidden();
         let shown = state.show();
-        place.catch_up(wait, shown);
+        position.catch_up(wait, shown);
         let deltas = state.deltas_after(alloc, from, usize::MAX);
         drop(state);
         self.wake(had_hidden);
@@ -425,5 +470,13 @@ impl<L: DeskName, W: Wait + Drop> Desk<L, W> {
         pass.catch_up(wait, state.front());
         let _ = pass.note_shown(wait, &shown);
         state.entries(alloc, rect)
+    }
+}
+
+/// Returns what is left of a time since `begun`; nothing if the clock can't be read.
+fn left_after<V: Clock>(clock: &V, left: Duration, begun: Instant) -> Duration {
+    match begun.elapsed(clock) {
+        Ok(time) => left.saturating_sub(time),
+        Err(_) => Duration::ZERO,
     }
 }

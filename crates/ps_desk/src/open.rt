@@ -10,7 +10,7 @@ use crate::desk::Desk;
 use crate::name::DeskName;
 use crate::parts::Parts;
 use crate::pass::Pass;
-use crate::shown_place::ShownPlace;
+use crate::shown_position::ShownPosition;
 use crate::state::DeskState;
 use ps_face::{FaceReader, FaceWriter, NewBook};
 use ps_grid::Refusal;
@@ -57,7 +57,7 @@ impl<L: DeskName, W: Wait + Drop> Desk<L, W> {
     }
 }
 
-/// Makes the published copies of a sheet, and a pass for each seat.
+/// Makes the published copies of a sheet, and a pass for each slot.
 fn open_copies<L: DeskName, W: Wait + Drop>(
     keep: W,
     alloc: Global,
@@ -85,7 +85,7 @@ fn open_copies<L: DeskName, W: Wait + Drop>(
     )?;
     // for the fact that the empty list is legal
     let _ = copies.front();
-    let shown = ShownPlace::new(&copies.shown());
+    let shown = ShownPosition::new(&copies.shown());
     let passes = make_passes(alloc, readers, &shown, all, seats)?;
     Ok((copies, passes))
 }
@@ -94,7 +94,7 @@ fn open_copies<L: DeskName, W: Wait + Drop>(
 fn make_passes<L: DeskName>(
     alloc: Global,
     mut readers: Vec<FaceReader<L>>,
-    shown: &ShownPlace<L>,
+    shown: &ShownPosition<L>,
     mut all: Share<L>,
     seats: usize,
 ) -> Result<Vec<Pass<L>>, Refusal>

@@ -11,9 +11,9 @@ ghost use Rattle.ps_desk.specs.Passes.{IsShown, entered, owned_by, seen_by};
 ghost use Rattle.ps_desk.specs.Seats.{GoesOn, Tabled};
 
 use crate::name::DeskName;
-use crate::place::Place;
+use crate::position::Position;
 use crate::shot::Shot;
-use crate::shown_place::ShownPlace;
+use crate::shown_position::ShownPosition;
 use ps_csv::exported_text;
 use ps_face::{BookPrefix, FaceReader, Seen};
 use ps_grid::{Cell, Rect, Refusal};
@@ -29,8 +29,8 @@ pub struct Pass<L: DeskName> {
     /// absent while a copy is read
     reader: Option<FaceReader<L>>,
     /// the beginning of the list that is known to be shown to all readers
-    shown: ShownPlace<L>,
-    /// this seat's part of what was appended
+    shown: ShownPosition<L>,
+    /// this slot's part of what was appended
     share: Share<L>,
     appended: u64,
     seat: u64,
@@ -59,7 +59,7 @@ impl<L: DeskName> Pass<L> {
     /// A pass that has seen nothing and appended nothing.
     pub(crate) fn new(
         reader: FaceReader<L>,
-        shown: ShownPlace<L>,
+        shown: ShownPosition<L>,
         share: Share<L>,
         seat: u64,
     ) -> Pass<L>
@@ -90,7 +90,7 @@ impl<L: DeskName> Pass<L> {
     /// It is the settled value of a history that a legal published list stands for. The list begins with all that this
     /// pass had seen or appended.
     ///
-    /// Cost: constant; no lock, no wait and no memory.
+    /// It takes no lock and no memory, and doesn't wait.
     pub fn read(&mut self, cell: Cell) -> Option<Shot>
         ensures later { IsPrefix self.old.list self.new.list }
         ensures legal { IfSome result (λ _. IsLegal L.opening self.new.list) }
@@ -107,7 +107,7 @@ impl<L: DeskName> Pass<L> {
         };
         // for the fact that the cell is in the grid
         let _ = cell.index();
-        self.shown = ShownPlace::new(&seen.shown());
+        self.shown = ShownPosition::new(&seen.shown());
         self.reader = Some(seen.leave());
         Some(shot)
     }
@@ -132,7 +132,7 @@ impl<L: DeskName> Pass<L> {
         let seen = enter(&mut self.reader)?;
         let version = seen.version();
         copy_all(&seen, values);
-        self.shown = ShownPlace::new(&seen.shown());
+        self.shown = ShownPosition::new(&seen.shown());
         self.reader = Some(seen.leave());
         Some(version)
     }
@@ -151,7 +151,7 @@ impl<L: DeskName> Pass<L> {
             return Err(Refusal::Seat);
         };
         let table = exported_text(alloc, &seen, rect);
-        self.shown = ShownPlace::new(&seen.shown());
+        self.shown = ShownPosition::new(&seen.shown());
         self.reader = Some(seen.leave());
         table
     }
@@ -164,28 +164,32 @@ impl<L: DeskName> Pass<L> {
     }
 
     /// Returns the position up to which the pass has seen the list.
-    pub fn place(&self) -> Place<L>
+    pub fn position(&self) -> Position<L>
         ensures { result ≡ self.now.list }
     {
-        Place::new(self.reader.as_ref().unwrap().front().again())
+        Position::new(self.reader.as_ref().unwrap().front().again())
     }
 
     /// Returns the token for all that the pass has seen, where that is known to be shown to all readers. While the pass
     /// has seen nothing, there is always one.
-    pub fn shown(&self) -> Option<ShownPlace<L>>
+    pub fn shown(&self) -> Option<ShownPosition<L>>
         ensures shown { IfSome result (λ shown. shown ≡ self.now.list) }
         ensures unknown { IfNone result (self.now.list ≢ []) }
     {
-        self.shown.part(self.place())
+        self.shown.part(self.position())
     }
 
     /// Records that all that the pass has seen is shown, and returns the token for it. No run meets a token of less:
     /// the call would wait for ever.
-    pub(crate) fn note_shown<V: Wait>(&mut self, wait: &V, shown: &ShownPlace<L>) -> ShownPlace<L>
+    pub(crate) fn note_shown<V: Wait>(
+        &mut self,
+        wait: &V,
+        shown: &ShownPosition<L>,
+    ) -> ShownPosition<L>
         ensures shown { result ≡ self.old.list }
         ensures same { self.new ≡ self.old }
     {
-        let Some(own) = shown.part(self.place()) else {
+        let Some(own) = shown.part(self.position()) else {
             for _ in wait.forever() {}
             unreachable!()
         };
@@ -195,15 +199,15 @@ impl<L: DeskName> Pass<L> {
 
     /// Marks the list as seen up to a position that is shown, or further where it was already. Each later look has
     /// that, too. It is public for callers that pass positions from one pass to another.
-    pub fn learn(&mut self, shown: &ShownPlace<L>)
+    pub fn learn(&mut self, shown: &ShownPosition<L>)
         ensures later { IsPrefix self.old.list self.new.list }
         ensures seen { IsPrefix shown.now self.new.list }
         ensures pass { self.new ≡ record self.old { list = self.new.list } }
     {
         let mut reader = self.reader.take().unwrap();
-        let place = shown.place();
-        if !place.front.begins(reader.front()) {
-            let _ = reader.learn(&place.front);
+        let position = shown.position();
+        if !position.front.begins(reader.front()) {
+            let _ = reader.learn(&position.front);
         }
         self.reader = Some(reader);
     }

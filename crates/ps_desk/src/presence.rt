@@ -1,24 +1,129 @@
-//! Whether a session's peer still waits for its reply.
+//! Whether a session's peer still waits for its reply, and what ends a wait.
 
+use mio::unix::SourceFd;
+use mio::{Interest, Registry, Token};
+use std::alloc::{AllocError, Global};
 use std::io::ErrorKind;
 use std::net::TcpStream;
+use std::os::fd::AsRawFd;
+use std::sync::atomic::{AtomicBool, Ordering};
+
+/// What ends a wait at a desk before its time, once [`crate::Desk::raise`] has raised it.
+#[derive(Drop)]
+pub struct Alarm {
+    is_raised: AtomicBool,
+}
+
+impl Alarm {
+    /// Creates an alarm that isn't raised.
+    pub fn new() -> Alarm {
+        Alarm {
+            is_raised: AtomicBool::new(false),
+        }
+    }
+
+    /// Raises it. Those who sleep aren't woken.
+    pub(crate) fn raise(&self) {
+        self.is_raised.store(true, Ordering::SeqCst);
+    }
+
+    /// Returns whether it was raised.
+    pub(crate) fn is_raised(&self) -> bool {
+        self.is_raised.load(Ordering::SeqCst)
+    }
+
+    /// Lowers it.
+    fn lower(&self) {
+        self.is_raised.store(false, Ordering::SeqCst);
+    }
+}
+
+/// The connections of the sessions that wait. A thread of its own sleeps until the system reports one of them by the
+/// number of its slot, and then raises the alarm of that slot.
+#[derive(Drop)]
+pub struct Lookout {
+    registry: Registry,
+    /// one for each slot
+    alarms: Vec<Alarm>,
+}
+
+impl Lookout {
+    /// Creates a lookout for as many slots. The registry is of what the thread sleeps on.
+    pub fn new(alloc: Global, registry: Registry, slots: usize) -> Result<Lookout, AllocError> {
+        let mut alarms = Vec::with_capacity(alloc, slots)?;
+        for _ in 0..slots {
+            alarms.push(Alarm::new())?;
+        }
+        Ok(Lookout { registry, alarms })
+    }
+
+    /// Returns the alarm of the slot with this number; none if there is no such slot.
+    pub fn alarm(&self, number: usize) -> Option<&Alarm> {
+        self.alarms.get(number)
+    }
+
+    /// Lowers the alarm of a slot, and has it raised once this connection has something to read. Returns none if that
+    /// can't be.
+    fn watch(&self, stream: &TcpStream, number: usize) -> Option<&Alarm> {
+        self.forget(stream);
+        let alarm = self.alarm(number)?;
+        alarm.lower();
+        let file = stream.as_raw_fd();
+        let mut source = SourceFd(&file);
+        match self
+            .registry
+            .register(&mut source, Token(number), Interest::READABLE)
+        {
+            Ok(()) => Some(alarm),
+            Err(_) => None,
+        }
+    }
+
+    /// Reports this connection no more.
+    fn forget(&self, stream: &TcpStream) {
+        let file = stream.as_raw_fd();
+        let _ = self.registry.deregister(&mut SourceFd(&file));
+    }
+}
+
+/// A slot of a lookout.
+#[derive(Clone, Copy)]
+pub struct Watch<'a> {
+    /// The lookout.
+    pub lookout: &'a Lookout,
+    /// The number of the slot.
+    pub number: usize,
+}
 
 /// A session's peer: that of a connection, or one that can't be observed.
 #[derive(Clone, Copy)]
 pub struct Presence<'a> {
     stream: Option<&'a TcpStream>,
+    watch: Option<Watch<'a>>,
 }
 
 impl<'a> Presence<'a> {
     /// Returns a peer that can't be observed. It counts as waiting.
     pub fn none() -> Presence<'a> {
-        Presence { stream: None }
+        Presence {
+            stream: None,
+            watch: None,
+        }
     }
 
     /// Returns the peer at the other end of this connection. Nobody else may read its bytes meanwhile.
     pub fn of(stream: &'a TcpStream) -> Presence<'a> {
         Presence {
             stream: Some(stream),
+            watch: None,
+        }
+    }
+
+    /// Returns the same peer, which a lookout watches while its session waits, if there is one.
+    pub fn watched_by(self, watch: Option<Watch<'a>>) -> Presence<'a> {
+        Presence {
+            stream: self.stream,
+            watch,
         }
     }
 
@@ -29,6 +134,21 @@ impl<'a> Presence<'a> {
         match self.stream {
             Some(stream) => is_silent(stream),
             None => true,
+        }
+    }
+
+    /// Returns an alarm that is raised once the peer goes or sends more; none if somebody has to look instead.
+    ///
+    /// It may also be raised for what happened before.
+    pub(crate) fn watch(&self) -> Option<&'a Alarm> {
+        let Watch { lookout, number } = self.watch?;
+        lookout.watch(self.stream?, number)
+    }
+
+    /// Ends what [`Presence::watch`] began.
+    pub(crate) fn unwatch(&self) {
+        if let (Some(watch), Some(stream)) = (self.watch, self.stream) {
+            watch.lookout.forget(stream);
         }
     }
 }

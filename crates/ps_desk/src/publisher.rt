@@ -4,7 +4,7 @@ ghost use Rattle.std.specs.Prelude.{◌≡◌};
 
 use crate::name::DeskName;
 use crate::seat::Seat;
-use crate::shown_place::ShownPlace;
+use crate::shown_position::ShownPosition;
 use ps_device::Failed;
 use ps_session::Keeper;
 use std::alloc::Global;
@@ -15,7 +15,7 @@ use std::sync::Wait;
 /// as the list that was shown.
 #[derive(Drop)]
 pub struct Publisher<L: DeskName> {
-    shown: ShownPlace<L>,
+    shown: ShownPosition<L>,
 }
 
 impl<L: DeskName> Model for Publisher<L> {
@@ -44,7 +44,7 @@ impl<L: DeskName> Publisher<L> {
     }
 
     /// Ends the publisher, and returns the token for what was shown.
-    pub fn leave(self) -> ShownPlace<L>
+    pub fn leave(self) -> ShownPosition<L>
         ensures { result ≡ self }
     {
         let Publisher { shown } = self;
@@ -65,9 +65,9 @@ impl<L: DeskName, W: Wait + Drop, V: Wait> Keeper<Seat<'_, L, W, V>> for Publish
 
     fn sync(&mut self, _alloc: Global, board: &mut Seat<'_, L, W, V>) -> Result<(), Failed> {
         let shown = board.show();
-        if !self.shown.has(shown.place()) {
+        if !self.shown.has(shown.position()) {
             // for the fact that the list shown before is a beginning of this one
-            let _ = shown.has(self.shown.place());
+            let _ = shown.has(self.shown.position());
             self.shown = shown;
         }
         Ok(())

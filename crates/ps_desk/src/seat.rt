@@ -5,10 +5,10 @@ ghost use Rattle.std.specs.Prelude.{◌≡◌};
 use crate::desk::Desk;
 use crate::name::DeskName;
 use crate::pass::Pass;
-use crate::place::Place;
+use crate::position::Position;
 use crate::presence::Presence;
 use crate::showing::Stream;
-use crate::shown_place::ShownPlace;
+use crate::shown_position::ShownPosition;
 use ps_delta::{Change, Delta, Edit};
 use ps_eval::Meter;
 use ps_grid::{Cell, Rect, Refusal};
@@ -67,16 +67,16 @@ impl<'a, L: DeskName, W: Wait + Drop, V: Wait> Seat<'a, L, W, V> {
     }
 
     /// Returns the position up to which the session has seen the list.
-    pub fn place(&self) -> Place<L>
+    pub fn position(&self) -> Position<L>
         ensures { result ≡ self.now.list }
     {
-        self.pass.place()
+        self.pass.position()
     }
 
     /// Shows all that the session has seen to readers, its own changes included, and returns the token for it.
     ///
-    /// Cost: constant, or that of [`Desk::show`] where some of it waits to be shown.
-    pub fn show(&mut self) -> ShownPlace<L>
+    /// Cost: that of [`Desk::show`], if some of it waits to be shown.
+    pub fn show(&mut self) -> ShownPosition<L>
         ensures shown { result ≡ self.old.list }
         ensures same { self.new ≡ self.old }
     {
@@ -96,22 +96,24 @@ impl<'a, L: DeskName, W: Wait + Drop, V: Wait> Seat<'a, L, W, V> {
     }
 
     /// Records that all that the session has seen is shown. No run meets a token of less: the call would wait for ever.
-    pub fn note_shown(&mut self, shown: &ShownPlace<L>)
+    pub fn note_shown(&mut self, shown: &ShownPosition<L>)
         ensures same { self.new ≡ self.old }
     {
         self.stream.has_changed = false;
         let _ = self.pass.note_shown(self.wait, shown);
     }
 
-    /// Shows all that the session has seen, and returns its pass.
+    /// Ends the session, and returns its pass. All that the session has seen is then shown to readers, its own changes
+    /// included, and the token says so.
     ///
-    /// Cost: constant, or that of [`Desk::show`] where some of it waits to be shown.
-    pub fn leave(mut self) -> Pass<L>
-        ensures { result ≡ self.entry }
+    /// Cost: that of [`Desk::show`], if some of it waits to be shown.
+    pub fn leave(mut self) -> (Pass<L>, ShownPosition<L>)
+        ensures pass { result.0 ≡ self.entry }
+        ensures shown { result.1 ≡ result.0.list }
     {
-        let _ = self.show();
+        let shown = self.show();
         let Seat { pass, .. } = self;
-        pass
+        (pass, shown)
     }
 }
 

@@ -18,7 +18,7 @@ use crate::name::DeskName;
 use crate::pass::Pass;
 use crate::receipt::Standing;
 use crate::showing::Showing;
-use crate::shown_place::ShownPlace;
+use crate::shown_position::ShownPosition;
 use ps_content::Content;
 use ps_csv::{Holds, entries_text, entry_of};
 use ps_delta::{Change, Delta};
@@ -109,7 +109,7 @@ impl<L: DeskName, W: Wait + Drop> DeskState<L, W> {
     }
 
     /// Shows all of the published list to those who look.
-    pub(crate) fn show(&mut self) -> ShownPlace<L>
+    pub(crate) fn show(&mut self) -> ShownPosition<L>
         ensures copies { self.new ≡ record self.old { shown = self.old.list } }
         ensures shown { result ≡ self.new.list }
     {
@@ -117,7 +117,7 @@ impl<L: DeskName, W: Wait + Drop> DeskState<L, W> {
         self.has_hidden = false;
         // for the fact that the list is legal
         let _ = self.copies.front();
-        ShownPlace::new(&self.copies.shown())
+        ShownPosition::new(&self.copies.shown())
     }
 
     /// Ends the desk, given the merged shares of all passes, and returns its sheet.

@@ -10,16 +10,63 @@ use std::io::{ErrorKind, Read, Write};
 use std::os::unix::fs::MetadataExt;
 use std::path::{AsPath, Path};
 use std::rt::Files;
+use std::{fmt, io};
 
 /// Why a file couldn't be opened.
 #[derive(Clone, Copy, Debug, PartialEq, Eq)]
 pub enum FileFault {
     /// There is no memory for its bytes.
     Memory,
-    /// The device failed.
-    Device,
+    /// The system didn't do what was asked.
+    Device(FileCause),
     /// Another process has the file.
     Busy,
+}
+
+/// Why a file can't be used. Its text comes after the file's path.
+#[derive(Clone, Copy, Debug, PartialEq, Eq)]
+pub enum FileCause {
+    /// The system's reason, by its number.
+    System(i32),
+    /// It is a device, a pipe or the like.
+    NotRegular,
+    /// It lost its name while it was opened.
+    Removed,
+    /// The system gave no reason.
+    Unknown,
+}
+
+impl fmt::Display for FileCause {
+    fn fmt<W: fmt::Write>(&self, f: &mut fmt::Formatter<W>) -> fmt::Result {
+        match self {
+            FileCause::System(code) => {
+                let error = io::Error::from_raw_os_error(*code);
+                write!(f, "{error}")
+            }
+            FileCause::NotRegular => write!(f, "it is no regular file"),
+            FileCause::Removed => write!(f, "it was removed meanwhile"),
+            FileCause::Unknown => write!(f, "it can't be read or written"),
+        }
+    }
+}
+
+impl FileCause {
+    /// Returns the cause of a call of the system that failed.
+    pub fn of(error: &io::Error) -> FileCause {
+        match error.raw_os_error() {
+            Some(code) => FileCause::System(code),
+            None => FileCause::Unknown,
+        }
+    }
+}
+
+/// The fault of a call of the system that failed.
+fn fault_of(error: &io::Error) -> FileFault {
+    if error.kind() == ErrorKind::OutOfMemory {
+        FileFault::Memory
+    } else {
+        FileFault::Device(FileCause::of(error))
+    }
 }
 
 /// A file as it is found, locked against other processes that lock it.
@@ -45,19 +92,22 @@ impl FoundFile {
         match file.try_lock() {
             Ok(()) => {}
             Err(TryLockError::WouldBlock) => return Err(FileFault::Busy),
-            Err(TryLockError::Error(_)) => return Err(FileFault::Device),
+            Err(TryLockError::Error(error)) => return Err(fault_of(&error)),
         }
         match file.metadata() {
             // (a device may have bytes without end)
-            Ok(about) if about.is_file() && about.nlink() > 0 => {}
-            _ => return Err(FileFault::Device),
+            Ok(about) if !about.is_file() => {
+                return Err(FileFault::Device(FileCause::NotRegular));
+            }
+            Ok(about) if about.nlink() == 0 => return Err(FileFault::Device(FileCause::Removed)),
+            Ok(_) => {}
+            Err(error) => return Err(fault_of(&error)),
         }
         sync_folder(rt, path)?;
         let mut bytes = Vec::new(alloc);
         match file.read_to_end(&mut bytes) {
             Ok(_) => Ok(FoundFile { file, bytes }),
-            Err(error) if error.kind() == ErrorKind::OutOfMemory => Err(FileFault::Memory),
-            Err(_) => Err(FileFault::Device),
+            Err(error) => Err(fault_of(&error)),
         }
     }
 }
@@ -66,30 +116,29 @@ impl FoundFile {
 fn open_or_make<R: Files<File = File>>(rt: &R, path: &str) -> Result<File, FileFault> {
     match open_there(rt, path, false) {
         Ok(file) => Ok(file),
-        Err(ErrorKind::NotFound) => match open_there(rt, path, true) {
+        Err(error) if error.kind() == ErrorKind::NotFound => match open_there(rt, path, true) {
             Ok(file) => Ok(file),
             // another process was quicker
-            Err(ErrorKind::AlreadyExists) => open_there(rt, path, false).map_err(
-                |_| FileFault::Device,
-            ),
-            Err(_) => Err(FileFault::Device),
+            Err(error) if error.kind() == ErrorKind::AlreadyExists => {
+                match open_there(rt, path, false) {
+                    Ok(file) => Ok(file),
+                    Err(error) => Err(fault_of(&error)),
+                }
+            }
+            Err(error) => Err(fault_of(&error)),
         },
-        Err(_) => Err(FileFault::Device),
+        Err(error) => Err(fault_of(&error)),
     }
 }
 
 /// Opens a file for reading and appending: one that is there, or one that is made now, in the very folder that the path
 /// names.
-fn open_there<R: Files<File = File>>(rt: &R, path: &str, is_new: bool) -> Result<File, ErrorKind> {
-    let opened = OpenOptions::new()
+fn open_there<R: Files<File = File>>(rt: &R, path: &str, is_new: bool) -> io::Result<File> {
+    OpenOptions::new()
         .read(true)
         .append(true)
         .create_new(is_new)
-        .open(rt, path);
-    match opened {
-        Ok(file) => Ok(file),
-        Err(error) => Err(error.kind()),
-    }
+        .open(rt, path)
 }
 
 /// Has the names of the file's folder on the disk, so that the file is there after a crash. At each start, since a
@@ -102,9 +151,9 @@ fn sync_folder<R: Files<File = File>>(rt: &R, path: &str) -> Result<(), FileFaul
     match File::open(rt, folder) {
         Ok(folder) => match folder.sync_all() {
             Ok(()) => Ok(()),
-            Err(_) => Err(FileFault::Device),
+            Err(error) => Err(fault_of(&error)),
         },
-        Err(_) => Err(FileFault::Device),
+        Err(error) => Err(fault_of(&error)),
     }
 }
 

@@ -40,7 +40,7 @@ mod opening;
 mod trace;
 
 pub use device::{Device, Found};
-pub use file::{FileFault, FoundFile, KeptFile};
+pub use file::{FileCause, FileFault, FoundFile, KeptFile};
 pub use journal::Journal;
 pub use laws::{
     a_start_may_crash, crashes_keep_the_acknowledged, failed_journals_leave_the_acknowledged,

@@ -9,8 +9,8 @@ ghost use Rattle.ps_keep.specs.Journals.{IsJournal};
 ghost use Rattle.ps_kept.specs.Kept.{TellHistory};
 ghost use Rattle.ps_kept_desk.specs.Records.{EndsKept};
 
-use crate::record::{Ended, KeptPlace, Record};
-use ps_desk::{Desk, DeskName, Pass, Place, Seat};
+use crate::record::{DurablePosition, Ended, Record};
+use ps_desk::{Desk, DeskName, Pass, Position, Seat};
 use ps_device::Failed;
 use ps_keep::{Device, Journal};
 use ps_session::Keeper;
@@ -40,31 +40,31 @@ impl<L: DeskName, D: Device + Drop> DeskKeeper<L, D> {
         requires passes { passes.now ≡ new_passes desk.now }
         requires changes { changes ≡ length L.opening }
     {
-        // for the fact that there is a seat
+        // for the fact that there is a slot
         let _ = desk.seats();
         DeskKeeper {
             record: Mutex::new(Record::new(journal, passes[0].shown().unwrap(), changes)),
         }
     }
 
-    /// Makes the published list durable up to a place, unless it is already.
+    /// Makes the published list durable up to a position, unless it is already.
     fn keep<W: Wait + Drop, V: Wait>(
         &self,
         wait: &V,
         alloc: Global,
         desk: &Desk<L, W>,
-        place: &Place<L>,
-    ) -> Result<KeptPlace<L>, Failed>
-        ensures { IfOk result (λ k. IsPrefix place.now k × (length place.now ≤ length k)) }
+        position: &Position<L>,
+    ) -> Result<DurablePosition<L>, Failed>
+        ensures { IfOk result (λ k. IsPrefix position.now k × (length position.now ≤ length k)) }
     {
         let mut guard = self.record.lock(wait);
         let record = &mut *guard;
-        if record.has(place) {
+        if record.has(position) {
             return Ok(record.kept());
         }
         record.advance(wait, alloc, desk)?;
-        // (no run meets a place beyond the end of the list)
-        if !record.has(place) {
+        // (no run meets a position beyond the end of the list)
+        if !record.has(position) {
             return Err(Failed);
         }
         Ok(record.kept())
@@ -78,7 +78,7 @@ impl<L: DeskName, D: Device + Drop> DeskKeeper<L, D> {
         wait: &V,
         alloc: Global,
         desk: &Desk<L, W>,
-    ) -> Result<KeptPlace<L>, Failed> {
+    ) -> Result<DurablePosition<L>, Failed> {
         let mut guard = self.record.lock(wait);
         let record = &mut *guard;
         record.advance(wait, alloc, desk)?;
@@ -100,7 +100,7 @@ impl<L: DeskName, D: Device + Drop> DeskKeeper<L, D> {
         alloc: Global,
         desk: Desk<L, W>,
         passes: Vec<Pass<L>>,
-        told: &[KeptPlace<L>],
+        told: &[DurablePosition<L>],
     ) -> Ended<D>
         requires passes { vec_len passes ≡ desk }
         ensures replica { result.sheet.replica ≡ L.replica }
@@ -125,7 +125,7 @@ pub struct SeatKeeper<'a, L: DeskName, W: Wait + Drop, D: Device + Drop, V: Wait
     desk: &'a Desk<L, W>,
     /// the means by which it waits for the locks
     wait: &'a V,
-    kept: KeptPlace<L>,
+    kept: DurablePosition<L>,
 }
 
 impl<'a, L: DeskName, W: Wait + Drop, D: Device + Drop, V: Wait> Model
@@ -159,22 +159,22 @@ impl<'a, L: DeskName, W: Wait + Drop, D: Device + Drop, V: Wait> SeatKeeper<'a, 
     }
 
     /// Ends the keeper, and returns the token for what it reported as durable.
-    pub fn leave(self) -> KeptPlace<L>
+    pub fn leave(self) -> DurablePosition<L>
         ensures { result ≡ self.entry }
     {
         let SeatKeeper { kept, .. } = self;
         kept
     }
 
-    /// Makes the published list durable up to a place.
-    fn keep(&mut self, alloc: Global, place: &Place<L>) -> Result<(), Failed>
-        ensures covered { OnOk result (IsPrefix place.now self.new) }
+    /// Makes the published list durable up to a position.
+    fn keep(&mut self, alloc: Global, position: &Position<L>) -> Result<(), Failed>
+        ensures covered { OnOk result (IsPrefix position.now self.new) }
         ensures later { IsPrefix self.old self.new }
     {
-        if self.kept.has(place) {
+        if self.kept.has(position) {
             return Ok(());
         }
-        let kept = self.keeper.keep(self.wait, alloc, self.desk, place)?;
+        let kept = self.keeper.keep(self.wait, alloc, self.desk, position)?;
         // for the fact that the list reported before is a beginning of this one
         let _ = self.kept.begins(&kept);
         self.kept = kept;
@@ -196,7 +196,7 @@ impl<L: DeskName, W: Wait + Drop, D: Device + Drop, V: Wait, U: Wait> Keeper<Sea
     ghost can_fail = { ⊤ };
 
     fn sync(&mut self, alloc: Global, board: &mut Seat<'_, L, W, U>) -> Result<(), Failed> {
-        self.keep(alloc, &board.place())?;
+        self.keep(alloc, &board.position())?;
         board.leave_to_keeper();
         board.note_shown(self.kept.shown());
         Ok(())

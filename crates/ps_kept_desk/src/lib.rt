@@ -15,7 +15,7 @@
 //! - [`DeskKeeper::close`]: the journal's durable lines are those of a beginning of the closed sheet's history. It has
 //!   all that any session reported as durable. Where the last sync succeeded, it is the whole history.
 //!
-//! What is durable is reported by a [`KeptPlace`], a token that stores only a length. One is made only where the
+//! What is durable is reported by a [`DurablePosition`], a token that stores only a length. One is made only where the
 //! journal's durable lines are those of the history that the token's list stands for.
 //!
 //! Cost: a sync costs the bytes of the lines that aren't durable yet, one append and one sync of the file. It costs
@@ -27,5 +27,5 @@ mod record;
 mod threads;
 
 pub use keeper::{DeskKeeper, SeatKeeper};
-pub use record::{Ended, KeptPlace};
+pub use record::{DurablePosition, Ended};
 pub use threads::keeper_is_sync;

@@ -11,7 +11,7 @@ ghost use Rattle.ps_desk.specs.Closing.{HistoryBegins, IsClosed, appended_of};
 ghost use Rattle.ps_kept_desk.specs.Records.{EndsKept, IsRecord};
 
 use ps_delta::Delta;
-use ps_desk::{Desk, DeskName, Pass, Place, ShownPlace};
+use ps_desk::{Desk, DeskName, Pass, Position, ShownPosition};
 use ps_device::Failed;
 use ps_keep::{Device, Journal};
 use ps_kept::note_deltas;
@@ -23,11 +23,11 @@ use std::sync::Wait;
 /// A token for a beginning of a desk's list that is shown to everyone and durable. Only a record makes one, from what
 /// it has made durable. A contract sees it as that list.
 #[derive(Drop)]
-pub struct KeptPlace<L: DeskName> {
-    shown: ShownPlace<L>,
+pub struct DurablePosition<L: DeskName> {
+    shown: ShownPosition<L>,
 }
 
-impl<L: DeskName> Model for KeptPlace<L> {
+impl<L: DeskName> Model for DurablePosition<L> {
     ghost use Rattle.std.specs.Prelude.{List};
     ghost use Rattle.std.specs.Coded.{codes};
     ghost use Rattle.ps_face.specs.declared.patch.Note.{Note};
@@ -40,39 +40,39 @@ impl<L: DeskName> Model for KeptPlace<L> {
     ghost view = { λ k. k.shown };
 }
 
-impl<L: DeskName> KeptPlace<L> {
+impl<L: DeskName> DurablePosition<L> {
     /// Returns a second token for the same beginning.
-    pub fn again(&self) -> KeptPlace<L>
+    pub fn again(&self) -> DurablePosition<L>
         ensures { result ≡ self.now }
     {
-        KeptPlace {
+        DurablePosition {
             shown: self.shown.again(),
         }
     }
 
     /// Returns the token for the same beginning as shown to everyone.
-    pub fn shown(&self) -> &ShownPlace<L>
+    pub fn shown(&self) -> &ShownPosition<L>
         ensures { result.now ≡ self.now }
     {
         &self.shown
     }
 
     /// Returns whether the list is durable up to this place.
-    pub fn has(&self, place: &Place<L>) -> bool
+    pub fn has(&self, position: &Position<L>) -> bool
         ensures { MatchBool result
-            (IsPrefix place.now self.now × (length place.now ≤ length self.now))
-            (length self.now < length place.now) }
+            (IsPrefix position.now self.now × (length position.now ≤ length self.now))
+            (length self.now < length position.now) }
     {
-        self.shown.has(place)
+        self.shown.has(position)
     }
 
     /// Returns whether the other token's list is as long, or longer. Then it begins with this one's.
-    pub fn begins(&self, other: &KeptPlace<L>) -> bool
+    pub fn begins(&self, other: &DurablePosition<L>) -> bool
         ensures { MatchBool result
             (IsPrefix self.now other.now × (length self.now ≤ length other.now))
             (length other.now < length self.now) }
     {
-        other.shown.has(self.shown.place())
+        other.shown.has(self.shown.position())
     }
 }
 
@@ -92,9 +92,9 @@ pub struct Ended<D: Device + Drop> {
 pub(crate) struct Record<L: DeskName, D: Device + Drop> {
     journal: Journal<D>,
     /// the beginning of the list that is durable
-    kept: KeptPlace<L>,
+    kept: DurablePosition<L>,
     /// the beginning of the list that the record has seen
-    seen: ShownPlace<L>,
+    seen: ShownPosition<L>,
     /// how many deltas of the history are in the journal
     noted: u64,
     /// whether the device failed, and isn't used any more
@@ -129,7 +129,7 @@ impl<L: DeskName, D: Device + Drop> Model for Record<L, D> {
 
 impl<L: DeskName, D: Device + Drop> Record<L, D> {
     /// Creates the record of a desk whose opening history is durable.
-    pub(crate) fn new(journal: Journal<D>, shown: ShownPlace<L>, noted: u64) -> Record<L, D>
+    pub(crate) fn new(journal: Journal<D>, shown: ShownPosition<L>, noted: u64) -> Record<L, D>
         requires told { TellHistory L.replica journal.lines L.opening }
         requires kept { journal.kept ≡ journal.lines }
         requires open { journal.has_failed ≡ false }
@@ -140,7 +140,7 @@ impl<L: DeskName, D: Device + Drop> Record<L, D> {
     {
         Record {
             journal,
-            kept: KeptPlace {
+            kept: DurablePosition {
                 shown: shown.again(),
             },
             seen: shown,
@@ -150,7 +150,7 @@ impl<L: DeskName, D: Device + Drop> Record<L, D> {
     }
 
     /// Returns the token for what is durable.
-    pub(crate) fn kept(&self) -> KeptPlace<L>
+    pub(crate) fn kept(&self) -> DurablePosition<L>
         ensures kept { result ≡ self.now.kept }
         ensures record { IsRecord L.replica L.opening self.now }
     {
@@ -158,12 +158,12 @@ impl<L: DeskName, D: Device + Drop> Record<L, D> {
     }
 
     /// Returns whether the list is durable up to this place.
-    pub(crate) fn has(&self, place: &Place<L>) -> bool
+    pub(crate) fn has(&self, position: &Position<L>) -> bool
         ensures { MatchBool result
-            (IsPrefix place.now self.now.kept × (length place.now ≤ length self.now.kept))
-            (length self.now.kept < length place.now) }
+            (IsPrefix position.now self.now.kept × (length position.now ≤ length self.now.kept))
+            (length self.now.kept < length position.now) }
     {
-        self.kept.has(place)
+        self.kept.has(position)
     }
 
     /// Makes all that is published durable. Where it fails, no more is durable than before.
@@ -221,7 +221,7 @@ impl<L: DeskName, D: Device + Drop> Record<L, D> {
     {
         match self.journal.sync() {
             Ok(()) => {
-                self.kept = KeptPlace {
+                self.kept = DurablePosition {
                     shown: self.seen.again(),
                 };
                 Ok(())
@@ -240,7 +240,7 @@ impl<L: DeskName, D: Device + Drop> Record<L, D> {
         alloc: Global,
         desk: Desk<L, W>,
         passes: Vec<Pass<L>>,
-        told: &[KeptPlace<L>],
+        told: &[DurablePosition<L>],
     ) -> Ended<D>
         requires passes { vec_len passes ≡ desk }
         ensures replica { result.sheet.replica ≡ L.replica }
@@ -279,7 +279,7 @@ impl<L: DeskName, D: Device + Drop> Record<L, D> {
 
     /// Confirms that each list that was reported as durable is durable. No run meets one that isn't: the call would
     /// wait for ever.
-    fn audit<V: Wait>(&self, wait: &V, told: &[KeptPlace<L>])
+    fn audit<V: Wait>(&self, wait: &V, told: &[DurablePosition<L>])
         ensures { All (λ list. IsPrefix list self.now.kept) told.now }
     {
         for kept in told {

@@ -5,8 +5,8 @@ ghost use denote.Param.Send.{IsSend, IsSync};
 ghost use Rattle.ps_kept_desk.specs.contracts.keeper.DeskKeeper as keeper;
 ghost use Rattle.ps_kept_desk.specs.contracts.record.Record as record_row;
 
-use crate::record::KeptPlace;
-use ps_desk::{DeskName, ShownPlace};
+use crate::record::DurablePosition;
+use ps_desk::{DeskName, ShownPosition};
 use ps_keep::{Device, Journal};
 
 /// What the bound says of a type.
@@ -27,8 +27,8 @@ fn record_is_send<L: DeskName + Send, D: Device + Drop + Send>()
         })) }
 {
     is_send::<Journal<D>>();
-    is_send::<KeptPlace<L>>();
-    is_send::<ShownPlace<L>>();
+    is_send::<DurablePosition<L>>();
+    is_send::<ShownPosition<L>>();
 }
 
 /// States that threads may share a keeper. Call it before sharing one.

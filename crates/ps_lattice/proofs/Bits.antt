@@ -24,11 +24,11 @@ tells_bit n k true h = (
 tells_bit n k false h =
     (λ set. absurd (set (let e = and_pow n k ∙ ap (λ m. m * 2 ^ k) h in omega arith)), λ e. absurd (false≢true e))
 
-or_nothing : (b : Bool) → (b || (false || false)) ≡ b
+pub or_nothing : (b : Bool) → (b || (false || false)) ≡ b
 or_nothing true = refl
 or_nothing false = refl
 
-or_something : (b : Bool) → (b || (true || false)) ≡ true
+pub or_something : (b : Bool) → (b || (true || false)) ≡ true
 or_something true = refl
 or_something false = refl
 

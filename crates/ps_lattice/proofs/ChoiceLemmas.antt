@@ -241,7 +241,7 @@ record SomeLive (o : ℕ) (es : List (Pair × Bool)) : Type 0 where
   found : map.find pair_cmp pair es ≡ Some false
   mine : (pair.option == o) ≡ true
 
-live_is : (mine gone : Bool) → (mine && not gone) ≡ true → (mine ≡ true) × (gone ≡ false)
+pub live_is : (mine gone : Bool) → (mine && not gone) ≡ true → (mine ≡ true) × (gone ≡ false)
 live_is true true h = absurd (false≢true h)
 live_is true false h = (refl, refl)
 live_is false gone h = absurd (false≢true h)

@@ -1,5 +1,6 @@
 pub mod Rising
 pub mod Merging
+pub mod Places
 pub mod Covering
 pub mod Views
 pub mod Joining
@@ -7,6 +8,7 @@ pub mod CountLemmas
 pub mod TallyLemmas
 pub mod ChoiceLemmas
 pub mod Bits
+pub mod Stretches
 pub mod NewsLemmas
 pub mod NewsWordLemmas
 pub mod WordLemmas

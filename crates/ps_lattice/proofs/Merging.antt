@@ -1,6 +1,6 @@
 -- Two lists of entries merged in the order of their keys: the entries of their join.
-use Rattle.std.proofs.Common.{◌≡◌, ℕ, ◌≤◌, length, drop, append-nil, Bool, true, false, cond, List, [], ◌∷◌, ◌++◌}
-use Rattle.std.proofs.Common.{Option, Some, None, refl, sym, ap, ◌∙◌}
+use Rattle.std.proofs.Common.{◌≡◌, ℕ, zero, suc, ◌<◌, ◌≤◌, length, get_or, take, drop, append-nil, Bool, true, false}
+use Rattle.std.proofs.Common.{cond, List, [], ◌∷◌, ◌++◌, Option, Some, None, refl, sym, ap, ◌∙◌, arith}
 use Rattle.std.proofs.lemmas.List.{drop_all}
 use Rattle.std.proofs.lemmas.List.Elements.{All-from_recursion, recursion_from_All}
 use Rattle.std.specs.List.{All, AllByRecursion}
@@ -49,6 +49,16 @@ module _ {K X : Type 0} (R : K → K → Ordering) (f : X → X → X) where
   pub merged-nil : (xs : List (K × X)) → merged R f xs [] ≡ xs
   merged-nil [] = refl
   merged-nil (x ∷ xs) = ap (λ l. x ∷ l) (merged-nil xs)
+
+  -- entries of the left list that are below the next one of the right list come first
+  pub merged_run : (y : K × X) (ys xs : List (K × X)) (n : ℕ) → n ≤ length xs
+      → ((j : ℕ) (d : K × X) → j < n → R (get_or xs j d).0 y.0 ≡ Less)
+      → merged R f xs (y ∷ ys) ≡ take n xs ++ merged R f (drop n xs) (y ∷ ys)
+  merged_run y ys xs zero within before = refl
+  merged_run y ys [] (suc n) within before = absurd (omega arith)
+  merged_run y ys (x ∷ xs) (suc n) within before =
+      merged_less x y xs ys (before 0 x (omega arith))
+      ∙ ap (λ l. x ∷ l) (merged_run y ys xs n (omega arith) (λ j d low. before (suc j) d (omega arith)))
 
   -- once one of two lists has ended, the rest of the other follows
   pub ended_left : (all xs ys total : List (K × X)) (i j : ℕ) → length xs ≤ i

@@ -85,7 +85,7 @@ module _ {K X : Type 0} (R : K → K → Ordering) (o : IsTotalOrder R) where
       and_both (is_lt (R x e.0)) (below_all R x es) (ap is_lt (o.congr x y e.0 p ∙ less_first y e es h))
       (below_tied x y es p (below_rest y e es h))
 
-  below_index : (x : K) (es : List (K × X)) → below_all R x es ≡ true
+  pub below_index : (x : K) (es : List (K × X)) → below_all R x es ≡ true
       → (j : ℕ) (d : K × X) → j < length es → R x (get_or es j d).0 ≡ Less
   below_index x [] h j d within = absurd (omega arith)
   below_index x (e ∷ es) h zero d within = less_first x e es h

@@ -4,3 +4,4 @@ pub mod Counts
 pub mod Held
 pub mod News
 pub mod NewsLaws
+pub mod Places

@@ -1,13 +1,14 @@
 //! An observed-remove set of options: a removal takes away only the pairs that it observed.
 
 ghost use Rattle.std.specs.Prelude.{◌≡◌, ℕ, ◌+◌, ◌<◌, ◌≤◌, ◌↔◌, not, ◌&&◌, ◌||◌, ◌==◌, [], ◌∷◌, Contains, IsTrue};
-ghost use Rattle.std.specs.Prelude.{IfOk, IfErr, IsErrOf, IsBitSet, true, filter, map as each};
+ghost use Rattle.std.specs.Prelude.{IfOk, IfErr, IsErrOf, IsBitSet, true, filter, length, map as each};
 ghost use Rattle.std.specs.List.{list_all, list_any};
 ghost use Rattle.std.specs.Option.{SomeIff};
 ghost use Rattle.std.specs.FinMap as map;
 ghost use Rattle.ps_lattice.specs.Choice.{pair_cmp, is_added, is_removed, is_live, is_chosen, last_of};
 ghost use Rattle.ps_lattice.specs.News.{IsNewsOf};
 ghost use Rattle.ps_lattice.specs.Inside.News.{newer_mark};
+ghost use Rattle.ps_lattice.specs.Inside.Places.{IsStretch};
 ghost use Rattle.ps_lattice.specs.Choice.{last_sequence, with_pair, withdrawn, joined_choices, is_pair, is_choice};
 
 use crate::entries::{self, Merge, Newer};
@@ -199,7 +200,7 @@ impl Choice {
 
     /// Returns the options that are in, as bits: bit k for option k.
     ///
-    /// Cost: linear in the pairs.
+    /// Cost: for each option its removed pairs before the first one that isn't, and a search for the next option.
     pub fn options(&self) -> u64
         ensures { (k : ℕ) → k < OPTIONS → (IsBitSet result k ↔ IsTrue (is_chosen self.now k)) }
     {
@@ -293,17 +294,64 @@ impl Choice {
 }
 
 /// Bit k for each option k with a pair that isn't removed.
+///
+/// The first such pair of an option decides; the rest of the option's pairs are passed over.
 fn options_of(pairs: &[(Pair, bool)]) -> u64
-    requires { IsTrue (list_all is_pair pairs.now) }
+    requires ascending { IsTrue (map.is_sorted pair_cmp pairs.now) }
+    requires in_range { IsTrue (list_all is_pair pairs.now) }
     ensures { (k : ℕ) → k < OPTIONS → (IsBitSet result k ↔ IsTrue (list_any (is_live k) pairs.now)) }
 {
     let mut options = 0;
-    for (pair, removed) in pairs {
-        if !removed {
+    let mut i = 0;
+    while i < pairs.len() {
+        let (pair, removed) = pairs[i];
+        if removed {
+            i += 1;
+        } else {
             options |= 1 << pair.option;
+            i = end_of_option(pairs, i);
         }
     }
     options
+}
+
+/// The place after the last pair that has the option of the pair at `from`.
+#[tactic(auto, using(crate::proofs::Stretches::stretch_of_one))]
+fn end_of_option(pairs: &[(Pair, bool)], from: usize) -> usize
+    requires ascending { IsTrue (map.is_sorted pair_cmp pairs.now) }
+    requires within { from < length pairs.now }
+    ensures { IsStretch pairs.now from result }
+{
+    let mut end = from + 1;
+    // the steps double until one is too wide, and then they halve
+    let mut step = 1;
+    let mut next = end_after(pairs, from, end, step);
+    while next > end {
+        end = next;
+        step = step.saturating_mul(2);
+        next = end_after(pairs, from, end, step);
+    }
+    while step > 1 {
+        step /= 2;
+        end = end_after(pairs, from, end, step);
+    }
+    end
+}
+
+/// `end` moved on by `step` pairs if these have the option of the pair at `from`; else `end`.
+fn end_after(pairs: &[(Pair, bool)], from: usize, end: usize, step: usize) -> usize
+    requires ascending { IsTrue (map.is_sorted pair_cmp pairs.now) }
+    requires so_far { IsStretch pairs.now from end }
+    requires some { 1 ≤ step }
+    ensures { IsStretch pairs.now from result }
+{
+    if step <= pairs.len() - end {
+        let last = end + (step - 1);
+        if pairs[last].0.option == pairs[from].0.option {
+            return last + 1;
+        }
+    }
+    end
 }
 
 /// The greatest sequence of the replica, 0 without any.

@@ -1,9 +1,10 @@
 //! Lists of keys and values in the order of their keys: counters and choices are stored so, and deltas listed so.
 
-ghost use Rattle.std.specs.Prelude.{◌≡◌, ◌↔◌, ◌++◌, IsTrue, IfOk, IfErr, OnOk};
+ghost use Rattle.std.specs.Prelude.{◌≡◌, ◌≤◌, ◌↔◌, ◌++◌, length, IsTrue, IfOk, IfErr, OnOk};
 ghost use Rattle.std.specs.FinMap as map;
 ghost use Rattle.ps_lattice.specs.Maps.{both_of, joined_maps};
 ghost use Rattle.ps_lattice.specs.Inside.News.{news_entries};
+ghost use Rattle.ps_lattice.specs.Inside.Places.{IsPlace};
 ghost use Rattle.ps_grid.specs.declared.refusal.Refusal.{Refusal};
 
 use crate::join::{Join, Linear};
@@ -82,8 +83,81 @@ pub(crate) fn value_at<K: Ord + Copy, X: Copy>(entries: &[(K, X)], key: K) -> Op
     }
 }
 
+/// A list that is this many times as long as the other one is searched; else both are walked.
+///
+/// A search among thousands of entries takes as long as a walk over some fifteen.
+const FAR_LONGER: usize = 16;
+
 /// Returns both lists merged in the order of their keys, with values at one key joined.
+///
+/// Cost: linear in both lists. Where one is far longer, what lies between two entries of the other is copied at once.
 pub(crate) fn merge_entries<K: Linear + Copy, X: Merge>(
+    alloc: Global,
+    mine: &[(K, X)],
+    theirs: &[(K, X)],
+) -> Result<Vec<(K, X)>, Refusal>
+    requires mine { IsTrue (map.is_sorted K.cmp mine.now) }
+    requires theirs { IsTrue (map.is_sorted K.cmp theirs.now) }
+    ensures ok { IfOk result (λ v. v.items
+        ≡ map.entries (joined_maps X.joined (map.from_sorted {R = K.cmp} mine.now)
+        (map.from_sorted {R = K.cmp} theirs.now))) }
+    ensures memory { IfErr result (λ e. e ≡ Refusal.Memory) }
+{
+    if theirs.len() <= mine.len() / FAR_LONGER {
+        return merge_few(alloc, mine, theirs);
+    }
+    if mine.len() <= theirs.len() / FAR_LONGER {
+        // a join is the same from either side
+        return merge_few(alloc, theirs, mine);
+    }
+    merge_by_steps(alloc, mine, theirs)
+}
+
+/// Both lists merged, as by `merge_entries`, where the second one is short.
+fn merge_few<K: Linear + Copy, X: Merge>(
+    alloc: Global,
+    many: &[(K, X)],
+    few: &[(K, X)],
+) -> Result<Vec<(K, X)>, Refusal>
+    requires many { IsTrue (map.is_sorted K.cmp many.now) }
+    requires few { IsTrue (map.is_sorted K.cmp few.now) }
+    ensures ok { IfOk result (λ v. v.items
+        ≡ map.entries (joined_maps X.joined (map.from_sorted {R = K.cmp} many.now)
+        (map.from_sorted {R = K.cmp} few.now))) }
+    ensures memory { IfErr result (λ e. e ≡ Refusal.Memory) }
+{
+    let mut all = Vec::with_capacity(alloc, many.len().saturating_add(few.len()))?;
+    let mut i = 0;
+    for entry in few {
+        let (place, is_there) = place_of(many, i, entry.0);
+        X::append(alloc, &mut all, &many[i..place])?;
+        i = place;
+        if is_there {
+            let both = many[i].1.joined_with(alloc, &entry.1)?;
+            all.push((entry.0, both))?;
+            i += 1;
+        } else {
+            all.push(twin_of(alloc, entry)?)?;
+        }
+    }
+    X::append(alloc, &mut all, &many[i..])?;
+    Ok(all)
+}
+
+/// The first place from `from` on whose key isn't below this one, and whether it is this one.
+fn place_of<K: Ord + Copy, X>(entries: &[(K, X)], from: usize, key: K) -> (usize, bool)
+    requires ascending { IsTrue (map.is_sorted K.cmp entries.now) }
+    requires within { from ≤ length entries.now }
+    ensures { IsPlace K.cmp entries.now from key result.0 result.1 }
+{
+    match entries[from..].binary_search_by_key(&key, |entry| entry.0) {
+        Ok(at) => (from + at, true),
+        Err(at) => (from + at, false),
+    }
+}
+
+/// Both lists merged, as by `merge_entries`, one entry at a time.
+fn merge_by_steps<K: Linear + Copy, X: Merge>(
     alloc: Global,
     mine: &[(K, X)],
     theirs: &[(K, X)],

@@ -5,40 +5,58 @@ ghost use Rattle.websocket.specs.Connection.{write_step};
 ghost use Rattle.websocket.specs.Content.{text};
 ghost use Rattle.ps_page.specs.Messages.{version_text};
 
-use crate::socket::{BrowserStream, PIECE_BYTES, close, say, socket_over};
+use crate::socket::{PIECE_BYTES, close, say, socket_over};
 use itoa::Buffer;
 use ps_device::Failed;
 use std::alloc::{AllocError, Global};
 use std::io::{ErrorKind, Read, Write};
-use std::net::TcpStream;
+use std::net::{Shutdown, TcpStream};
 use tungstenite::{CloseCode, Error, Message, NoMask, WebSocket};
 
-/// The most messages of a browser that are skipped at a time.
-const MOST_PASSED: usize = 64;
+/// The most messages of a browser that are skipped at a time. A page sends none.
+const MOST_PASSED: usize = 1024;
 
-/// A WebSocket that reports changes to a browser. Nothing that the browser sends is carried out.
+/// A WebSocket that reports changes to a browser. Nothing that the browser sends is carried out, and no call waits for
+/// the browser.
 #[derive(Drop)]
-pub struct NewsSocket<'a> {
+pub struct NewsSocket {
     alloc: Global,
-    socket: WebSocket<BrowserStream<'a>, NoMask>,
+    socket: WebSocket<TcpStream, NoMask>,
+    /// the number that was reported last
+    told: Option<u64>,
 }
 
-impl<'a> NewsSocket<'a> {
+impl NewsSocket {
     /// Wraps the connection of a WebSocket that was just opened, and makes it non-blocking.
-    pub fn new(alloc: Global, stream: &'a TcpStream) -> NewsSocket<'a> {
-        let socket = socket_over(alloc, BrowserStream::new(stream, None), PIECE_BYTES);
+    pub fn new(alloc: Global, stream: TcpStream) -> NewsSocket {
         let _ = stream.set_nonblocking(true);
-        NewsSocket { alloc, socket }
+        NewsSocket {
+            alloc,
+            socket: socket_over(alloc, stream, PIECE_BYTES),
+            told: None,
+        }
     }
 
-    /// Reports to the browser how many changes there are. Fails if the browser doesn't read what it is sent.
+    /// Returns the connection.
+    pub fn connection(&self) -> &TcpStream {
+        self.socket.get_ref()
+    }
+
+    /// Reports to the browser how many changes there are, if it doesn't know of as many. Fails if the browser
+    /// doesn't read what it is sent.
     pub fn tell(&mut self, version: u64) -> Result<(), Failed> {
+        match self.told {
+            Some(told) if version <= told => return Ok(()),
+            _ => {}
+        }
+        self.told = Some(version);
         say_version(self.alloc, &mut self.socket, version)
     }
 
-    /// Skips what the browser has sent, and returns whether it is still there. Pings are answered.
+    /// Skips all that the browser has sent, and returns whether it is still there. Pings are answered. A browser that
+    /// sent 1,024 messages since the last call is taken for gone.
     ///
-    /// Cost: linear in these bytes, at most 64 messages.
+    /// Cost: linear in these bytes.
     pub fn is_there(&mut self) -> bool {
         pass_over(&mut self.socket)
     }
@@ -46,6 +64,7 @@ impl<'a> NewsSocket<'a> {
     /// Closes the WebSocket, and tells the browser that there is no more news.
     pub fn leave(mut self) {
         close(&mut self.socket, CloseCode::Away, "the server ends");
+        let _ = self.connection().shutdown(Shutdown::Both);
     }
 }
 
@@ -77,7 +96,7 @@ pub fn say_version<S: Read + Write + Drop>(
     say(alloc, socket, bytes.as_slice())
 }
 
-/// Skips what a browser sent, and returns whether it may send more.
+/// Skips all that a browser sent, and returns whether it may send more.
 fn pass_over<S: Read + Write + Drop>(socket: &mut WebSocket<S, NoMask>) -> bool {
     for _ in 0..MOST_PASSED {
         match socket.read() {
@@ -87,5 +106,5 @@ fn pass_over<S: Read + Write + Drop>(socket: &mut WebSocket<S, NoMask>) -> bool 
             Err(_) => return false,
         }
     }
-    true
+    false
 }

@@ -4,10 +4,12 @@ pub mod FoundLemmas
 pub mod GrowthCounts
 pub mod GrowthLemmas
 pub mod ListedLemmas
+pub mod OutsideCounts
 pub mod QueueEnd
 pub mod QueueStart
 pub mod ReleaseLemmas
 pub mod LevellingLemmas
 pub mod SoleDependents
+pub mod TallyLemmas
 pub mod TouchedLemmas
 pub mod ValueLaws

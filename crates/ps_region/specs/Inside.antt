@@ -3,4 +3,6 @@ pub mod Cells
 pub mod Counts
 pub mod Scratch
 pub mod LevelWalk
+pub mod Outside
+pub mod Tallies
 pub mod Touched

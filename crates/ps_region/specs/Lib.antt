@@ -1,3 +1,4 @@
+pub mod CellSets
 pub mod Found
 pub mod Inside
 pub mod Laws

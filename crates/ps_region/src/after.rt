@@ -3,8 +3,10 @@
 ghost use Rattle.std.specs.Prelude.{◌≡◌, ◌<◌, ℕ, Bool, true};
 ghost use Rattle.ps_grid.specs.declared.size.TheConstants.{CELLS};
 ghost use Rattle.ps_grid.specs.Chains.{References};
+ghost use Rattle.ps_grid.specs.Rectangle.{is_inside};
+ghost use Rattle.std.specs.List.{list_any};
 
-use ps_grid::Cell;
+use ps_grid::{Cell, Rect};
 
 /// The formulas after a change: which cells have one, and what these refer to.
 pub trait After {
@@ -17,6 +19,10 @@ pub trait After {
     /// Returns whether the formula of `c` refers to `d`; no cell without a formula refers to any.
     fn refers(&self, c: Cell, d: Cell) -> bool
         ensures { result ≡ refers self.now c d };
+
+    /// Returns rectangles that together have exactly the cells that the formula of `c` refers to; they may overlap.
+    fn rects(&self, c: Cell) -> &[Rect]
+        ensures { (d : ℕ) → d < CELLS → list_any (λ r. is_inside r d) result.now ≡ refers self.now c d };
 
     /// Returns whether the cell has a formula.
     fn is_formula(&self, c: Cell) -> bool

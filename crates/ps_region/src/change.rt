@@ -4,6 +4,7 @@ ghost use Rattle.std.specs.Prelude.{◌≡◌, length, true, false, slice_index_
 ghost use Rattle.ps_grid.specs.declared.size.TheConstants.{CELLS as ALL};
 
 use crate::after::After;
+use crate::cell_set::CellSet;
 use ps_grid::Cell;
 use ps_index::Index;
 
@@ -15,7 +16,7 @@ pub(crate) struct MarkedChange<'a, A> {
     pub after: &'a A,
     pub touched: &'a [Cell],
     /// the cyclic cells outside the region; it may have any cells of the region too
-    pub outside: &'a [Cell],
+    pub outside: &'a CellSet,
     /// for each cell whether it is touched
     pub fresh: &'a [bool],
     /// for each cell whether it is touched and has no formula

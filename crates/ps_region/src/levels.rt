@@ -6,7 +6,8 @@ ghost use Rattle.std.specs.Iterator.{AlwaysYields, IsFinite};
 ghost use Rattle.ps_grid.specs.declared.size.TheConstants.{CELLS as ALL};
 ghost use Rattle.ps_grid.specs.Chains.{In};
 ghost use Rattle.ps_region.specs.Inside.Cells.{HasSole};
-ghost use Rattle.ps_region.specs.Inside.Counts.{Queued, Released, is_in};
+ghost use Rattle.ps_region.specs.CellSets.{has_cell};
+ghost use Rattle.ps_region.specs.Inside.Counts.{Queued, Released};
 ghost use Rattle.ps_region.specs.Inside.LevelWalk.{Levels, Levelling, is_frame, is_held, is_pending, is_ready};
 ghost use Rattle.ps_region.specs.Inside.Touched.{not_plain};
 ghost use Rattle.ps_region.specs.Listed.{listed};
@@ -230,14 +231,14 @@ pub(crate) fn assign_levels<A: After>(
     requires closed { (c d : ℕ) → A.refers change.now.after.now c d ≡ true → slice_index_or marks.now d false ≡ true
         → slice_index_or marks.now c false ≡ true }
     requires starting { Levelling (A.refers change.now.after.now)
-        (is_pending (A.formula change.now.after.now) (is_in change.now.outside.now) marks.now)
+        (is_pending (A.formula change.now.after.now) (has_cell change.now.outside.now) marks.now)
         (is_frame (A.formula change.now.after.now) marks.now) ALL 0 0 (length order.old.items) 1
         left.old level.old order.old.items }
     requires empty { starts.old.items ≡ [] }
     requires room { ALL ≤ vec_capacity order.old }
     requires room_starts { ALL < vec_capacity starts.old }
     ensures ended { Levelling (A.refers change.now.after.now)
-        (is_pending (A.formula change.now.after.now) (is_in change.now.outside.now) marks.now)
+        (is_pending (A.formula change.now.after.now) (has_cell change.now.outside.now) marks.now)
         (is_frame (A.formula change.now.after.now) marks.now) ALL (length order.new.items) (length order.new.items)
         (length order.new.items) (length starts.new.items) left.new level.new order.new.items }
     ensures room { ALL ≤ vec_capacity order.new }

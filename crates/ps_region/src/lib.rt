@@ -22,12 +22,13 @@
 //! Cost: `Region::new` takes the room for the tables, 31 bytes for each cell of the grid, and writes none of it. No
 //! other call takes memory. The first mark writes the tables that are read by cell, 15 bytes for each cell of the grid;
 //! no later mark passes over the grid. A mark costs the cells of the region and two walks of the references to each, or
-//! one walk if few cells refer there. It also goes once through the list of cyclic cells that it gets, and walks the
-//! references to those outside the region. So the worst case is a small change while there are many cyclic cells: it
-//! costs more than its region. If no cell is cyclic, nothing is paid for it.
+//! one walk if few cells refer there. If some cell is cyclic, it also looks up each reference of the region's formulas
+//! in the set of cyclic cells that it gets. It looks up a range in blocks of 64 rows, and cell by cell only in blocks
+//! that have a cyclic cell. How many cyclic cells there are elsewhere doesn't count.
 #![tactic(auto)]
 
 mod after;
+mod cell_set;
 mod change;
 mod grow;
 mod laws;
@@ -38,6 +39,7 @@ mod outside;
 mod region;
 
 pub use after::After;
+pub use cell_set::CellSet;
 pub use laws::{
     cells_outside_keep_their_values, cycles_stay_outside, listed_cells_refer,
     old_and_new_give_one_region, quiet_cells_keep_their_values,

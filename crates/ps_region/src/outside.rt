@@ -1,171 +1,98 @@
-//! The references of a region's cells to the cyclic cells outside it.
+//! The references of a region's formulas to the cyclic cells outside it.
 
-ghost use Rattle.std.specs.Prelude.{◌≡◌, ◌<◌, [], ◌∷◌, length, ℕ, true, false, nat_eq, ◌&&◌, slice_index};
-ghost use Rattle.std.specs.Prelude.{◌+◌, ◌==◌, not, slice_index_or};
-ghost use Rattle.std.specs.Iterator.{AlwaysYields, IsFinite};
-ghost use Rattle.std.specs.List.{IsDistinct, list_any};
+ghost use Rattle.std.specs.Prelude.{◌≡◌, ◌<◌, [], length, ℕ, true, false, slice_index, slice_index_or, ◌&&◌};
 ghost use Rattle.ps_grid.specs.declared.size.TheConstants.{CELLS as ALL};
 ghost use Rattle.ps_grid.specs.Chains.{In};
+ghost use Rattle.ps_grid.specs.Rectangle.{is_inside};
+ghost use Rattle.ps_region.specs.CellSets.{has_cell};
 ghost use Rattle.ps_region.specs.Inside.Cells.{Marked};
-ghost use Rattle.ps_region.specs.Inside.Counts.{as_one, cells_left, is_in};
+ghost use Rattle.ps_region.specs.Inside.Counts.{cells_left, count_below, is_in};
 ghost use Rattle.ps_region.specs.Inside.LevelWalk.{is_pending};
+ghost use Rattle.ps_region.specs.Inside.Outside.{in_rows, is_covered, is_new, is_outside};
 ghost use Rattle.ps_region.specs.Inside.Touched.{not_plain};
-ghost use Rattle.ps_region.specs.Listed.{listed};
 
 use crate::after::After;
-use crate::change::{MarkedChange, still_refers};
-use crate::grow::add_one;
+use crate::cell_set::{CellSet, HIGH};
+use crate::change::MarkedChange;
 use crate::members::has_formula;
-use ps_grid::Cell;
-use ps_index::Readers;
+use ps_grid::{Cell, Rect};
 
-/// Whether a listed cell is in the region and refers to the cell `d`.
-fn is_reference<A: After>(change: &MarkedChange<'_, A>, marks: &[bool], e: Cell, d: Cell) -> bool
-    requires fresh_length { length change.now.fresh.now ≡ ALL }
-    requires marks_length { length marks.now ≡ ALL }
-    requires known { slice_index_or change.now.fresh.now e false ≡ false → A.refers change.now.after.now e d ≡ true }
-    ensures { result ≡ (slice_index_or marks.now e false && A.refers change.now.after.now e d) }
+/// Whether one of the rectangles has the cell.
+fn cover(rects: &[Rect], d: Cell) -> bool
+    ensures { result ≡ is_covered rects.now d }
 {
-    marks[e.index()] && still_refers(change, e, d)
+    rects.iter().any(|rect| rect.contains(d))
 }
 
-/// Counts the reference of the cell `e` to the cell `d`, if `e` is in the region and refers there.
-fn count_one<A: After>(
-    change: &MarkedChange<'_, A>,
-    marks: &[bool],
-    left: &mut [u32],
-    e: Cell,
-    d: Cell,
-)
-    requires fresh_length { length change.now.fresh.now ≡ ALL }
-    requires marks_length { length marks.now ≡ ALL }
-    requires left_length { length left.old ≡ ALL }
-    requires known { slice_index_or change.now.fresh.now e false ≡ false → A.refers change.now.after.now e d ≡ true }
-    requires small { slice_index_or marks.now e false ≡ true → slice_index left.old e < ALL }
-    ensures counted { (c : ℕ) → slice_index left.new c ≡ slice_index left.old c
-        + as_one (list_any (nat_eq c) (e ∷ [])
-        && (slice_index_or marks.now c false && A.refers change.now.after.now c d)) }
+/// Whether a cell is in the set, outside the region and in none of the rectangles.
+fn is_new_cell(set: &CellSet, marks: &[bool], rects: &[Rect], d: Cell) -> bool
+    requires { length marks.now ≡ ALL }
+    ensures { result ≡ is_new set.now marks.now rects.now d }
 {
-    // for the fact that the cell is in the grid
-    let _place = e.index();
-    if is_reference(change, marks, e, d) {
-        add_one(left, e);
-    }
+    set.contains(d) && !marks[d.index()] && !cover(rects, d)
 }
 
-/// Counts the references of the region's cells to the cell `d`, by a walk of the cells that refer there.
-fn count_each<A: After, W: Iterator<Item = Cell> + Drop>(
-    change: &MarkedChange<'_, A>,
-    marks: &[bool],
-    left: &mut [u32],
-    d: Cell,
-    walk: W,
-)
-    requires can { W.can_next walk }
-    requires ends { IsFinite (W.remaining walk) }
-    requires walks { AlwaysYields W.next_gives (λ e. e) walk (listed change.now.index.now d) }
-    requires fresh_length { length change.now.fresh.now ≡ ALL }
+/// How many new cells a column of the rectangle has. It passes over the blocks in which the set has no cell.
+fn count_rows(set: &CellSet, marks: &[bool], before: &[Rect], rect: Rect, across: usize) -> u32
     requires marks_length { length marks.now ≡ ALL }
-    requires left_length { length left.old ≡ ALL }
-    requires known { (e : ℕ) → In (listed change.now.index.now d) e
-        → slice_index_or change.now.fresh.now e false ≡ false
-        → A.refers change.now.after.now e d ≡ true }
-    requires lists_all { (c : ℕ) → A.refers change.now.after.now c d ≡ true → In (listed change.now.index.now d) c }
-    requires small { (c : ℕ) → slice_index_or marks.now c false ≡ true → slice_index left.old c < ALL }
-    ensures counted { (c : ℕ) → slice_index left.new c ≡ slice_index left.old c
-        + as_one (slice_index_or marks.now c false && A.refers change.now.after.now c d) }
+    requires across { across < rect.width }
+    ensures { result ≡ count_below
+        (λ d. in_rows rect across rect.height d && is_new set.now marks.now before.now d) ALL }
 {
-    for e in walk {
-        count_one(change, marks, left, e, d);
-    }
-}
-
-/// Counts the references of the region's cells to the cell `d`. The cells that refer there are walked only if there may
-/// be several.
-fn count_references<A: After>(
-    change: &MarkedChange<'_, A>,
-    marks: &[bool],
-    left: &mut [u32],
-    d: Cell,
-)
-    requires fresh_length { length change.now.fresh.now ≡ ALL }
-    requires marks_length { length marks.now ≡ ALL }
-    requires left_length { length left.old ≡ ALL }
-    requires known { (e : ℕ) → In (listed change.now.index.now d) e
-        → slice_index_or change.now.fresh.now e false ≡ false
-        → A.refers change.now.after.now e d ≡ true }
-    requires lists_all { (c : ℕ) → A.refers change.now.after.now c d ≡ true → In (listed change.now.index.now d) c }
-    requires small { (c : ℕ) → slice_index_or marks.now c false ≡ true → slice_index left.old c < ALL }
-    ensures counted { (c : ℕ) → slice_index left.new c ≡ slice_index left.old c
-        + as_one (slice_index_or marks.now c false && A.refers change.now.after.now c d) }
-{
-    match change.index.readers(d) {
-        Readers::Nobody => {}
-        Readers::One(e) => count_one(change, marks, left, e, d),
-        Readers::Row(walk) => count_each(change, marks, left, d, walk),
-        Readers::TwoRows(walk) => count_each(change, marks, left, d, walk),
-        Readers::Several => count_each(change, marks, left, d, change.index.dependents(d)),
-    }
-}
-
-/// Counts for each cell of the region its references to the cyclic cells outside, by a walk of these.
-fn count_all<A: After>(change: &MarkedChange<'_, A>, marks: &[bool], left: &mut [u32])
-    requires fresh_length { length change.now.fresh.now ≡ ALL }
-    requires marks_length { length marks.now ≡ ALL }
-    requires left_length { length left.old ≡ ALL }
-    requires known { (d e : ℕ) → d < ALL → In (listed change.now.index.now d) e
-        → slice_index_or change.now.fresh.now e false ≡ false
-        → A.refers change.now.after.now e d ≡ true }
-    requires lists_all { (c d : ℕ) → A.refers change.now.after.now c d ≡ true → In (listed change.now.index.now d) c }
-    requires once { IsDistinct nat_eq change.now.outside.now }
-    requires counted { (c : ℕ) → slice_index_or marks.now c false ≡ true → slice_index left.old c
-        ≡ cells_left (A.refers change.now.after.now)
-        (is_pending (A.formula change.now.after.now) (is_in []) marks.now) [] ALL c }
-    ensures counts { (c : ℕ) → slice_index_or marks.now c false ≡ true → slice_index left.new c
-        ≡ cells_left (A.refers change.now.after.now)
-        (is_pending (A.formula change.now.after.now) (is_in change.now.outside.now) marks.now) [] ALL c }
-{
-    for d in change.outside {
-        if !marks[d.index()] {
-            count_references(change, marks, left, *d);
+    // for the fact that the rectangle lies in the grid
+    let _ = rect.area();
+    let height = rect.height();
+    let mut count = 0;
+    let mut down = 0;
+    while down < height {
+        let c = rect.at(across, down);
+        if set.is_clear(c) {
+            down += HIGH - (c.row() as usize - 1) % HIGH;
+        } else {
+            if is_new_cell(set, marks, before, c) {
+                count += 1;
+            }
+            down += 1;
         }
     }
+    count
 }
 
-/// Whether a member has a formula.
-fn has_formulas(plain: &[bool], members: &[Cell]) -> bool
-    requires { length plain.now ≡ ALL }
-    ensures { result ≡ list_any (not_plain plain.now) members.now }
+/// How many new cells the rectangle has: those of the set outside the region that the rectangles before it don't have.
+fn count_new(set: &CellSet, marks: &[bool], before: &[Rect], rect: Rect) -> u32
+    requires { length marks.now ≡ ALL }
+    ensures { result ≡ count_below (λ d. is_inside rect d && is_new set.now marks.now before.now d) ALL }
 {
-    members.iter().any(|c| has_formula(plain, *c))
+    let mut count = 0;
+    for across in 0..rect.width() {
+        count += count_rows(set, marks, before, rect, across);
+    }
+    count
 }
 
-/// Whether a member may refer to a cyclic cell outside: there are such cells, and a member has a formula.
-fn may_refer_outside<A>(change: &MarkedChange<'_, A>, members: &[Cell]) -> bool
-    requires { length change.now.plain.now ≡ ALL }
-    ensures { result ≡ (not (length change.now.outside.now == 0)
-        && list_any (not_plain change.now.plain.now) members.now) }
+/// How many cells of the set outside the region the rectangles have, each counted once.
+fn count_covered(set: &CellSet, marks: &[bool], rects: &[Rect]) -> u32
+    requires { length marks.now ≡ ALL }
+    ensures { result ≡ count_below (λ d. is_covered rects.now d && is_outside set.now marks.now d) ALL }
 {
-    !change.outside.is_empty() && has_formulas(change.plain, members)
+    let mut count = 0;
+    for i in 0..rects.len() {
+        count += count_new(set, marks, &rects[..i], rects[i]);
+    }
+    count
 }
 
-/// Counts for each cell of the region its references to the cyclic cells outside. These are walked only if a member has
-/// a formula: mostly a number is set in a cell that no formula refers to, and there is nothing to count.
+/// Counts for each cell of the region its references to the cyclic cells outside: each formula of the region is asked
+/// which of the cells that it refers to are cyclic. If no cell is, none is asked.
 pub(crate) fn count_outside<A: After>(
     change: &MarkedChange<'_, A>,
     marks: &[bool],
     members: &[Cell],
     left: &mut [u32],
 )
-    requires fresh_length { length change.now.fresh.now ≡ ALL }
     requires plain_length { length change.now.plain.now ≡ ALL }
     requires marks_length { length marks.now ≡ ALL }
     requires left_length { length left.old ≡ ALL }
-    requires known { (d e : ℕ) → d < ALL → In (listed change.now.index.now d) e
-        → slice_index_or change.now.fresh.now e false ≡ false
-        → A.refers change.now.after.now e d ≡ true }
-    requires lists_all { (c d : ℕ) → A.refers change.now.after.now c d ≡ true → In (listed change.now.index.now d) c }
-    requires once { IsDistinct nat_eq change.now.outside.now }
     requires marked { Marked marks.now members.now }
     requires formula { (c : ℕ) → In members.now c
         → not_plain change.now.plain.now c ≡ A.formula change.now.after.now c }
@@ -174,9 +101,14 @@ pub(crate) fn count_outside<A: After>(
         (is_pending (A.formula change.now.after.now) (is_in []) marks.now) [] ALL c }
     ensures counts { (c : ℕ) → slice_index_or marks.now c false ≡ true → slice_index left.new c
         ≡ cells_left (A.refers change.now.after.now)
-        (is_pending (A.formula change.now.after.now) (is_in change.now.outside.now) marks.now) [] ALL c }
+        (is_pending (A.formula change.now.after.now) (has_cell change.now.outside.now) marks.now) [] ALL c }
 {
-    if may_refer_outside(change, members) {
-        count_all(change, marks, left);
+    if change.outside.is_empty() {
+        return;
+    }
+    for c in members {
+        if has_formula(change.plain, *c) {
+            left[c.index()] += count_covered(change.outside, marks, change.after.rects(*c));
+        }
     }
 }

@@ -2,14 +2,16 @@
 
 ghost use Rattle.std.specs.Prelude.{◌≡◌, ◌⊎◌, ◌<◌, ◌≤◌, ℕ, [], true, false, nat_eq, if◌then◌else◌, Some, None, IfOk};
 ghost use Rattle.std.specs.Prelude.{IfErr, length, slice_index, slice_index_or, vec_capacity};
-ghost use Rattle.std.specs.List.{IsDistinct, list_any};
+ghost use Rattle.std.specs.List.{list_any};
 ghost use Rattle.ps_grid.specs.declared.refusal.Refusal.TheVariants.{Memory};
 ghost use Rattle.ps_grid.specs.declared.size.TheConstants.{CELLS as ALL};
 ghost use Rattle.ps_grid.specs.Chains.{In, InRegion, IsCyclic};
+ghost use Rattle.ps_region.specs.CellSets.{has_cell};
 ghost use Rattle.ps_region.specs.Found.{IsFound, has_left, level_cells, level_count};
 ghost use Rattle.ps_region.specs.Listed.{listed};
 
 use crate::after::After;
+use crate::cell_set::CellSet;
 use crate::change::MarkedChange;
 use crate::grow::grow;
 use crate::levels::{assign_levels, first_level, list_held};
@@ -99,17 +101,16 @@ impl Region {
     /// `index` lists the formulas after the change, and at most those that touched cells had before. `cyclic` has the
     /// cells outside the region that are cyclic after the change, and may have any cells of the region.
     ///
-    /// Cost: the cells of the region and the references to them. If one of them has a formula, also the references to
-    /// each cell of `cyclic` outside the region. The first mark also writes six tables of the grid's size.
-    pub fn mark<A: After>(&mut self, index: &Index, after: &A, touched: &[Cell], cyclic: &[Cell])
+    /// Cost: the cells of the region and the references to them. If `cyclic` isn't empty, also the references of the
+    /// region's formulas. The first mark also writes six tables of the grid's size.
+    pub fn mark<A: After>(&mut self, index: &Index, after: &A, touched: &[Cell], cyclic: &CellSet)
         requires lists_all { (c d : ℕ) → A.refers after.now c d ≡ true → In (listed index.now d) c }
         requires extra { (c d : ℕ) → d < ALL → In (listed index.now d) c
             → (A.refers after.now c d ≡ true) ⊎ In touched.now c }
-        requires outside_once { IsDistinct nat_eq cyclic.now }
-        requires outside_yes { (c : ℕ) → (InRegion (A.refers after.now) touched.now c → ⊥) → In cyclic.now c
-            → IsCyclic (A.refers after.now) c }
+        requires outside_yes { (c : ℕ) → (InRegion (A.refers after.now) touched.now c → ⊥)
+            → has_cell cyclic.now c ≡ true → IsCyclic (A.refers after.now) c }
         requires outside_no { (c : ℕ) → (InRegion (A.refers after.now) touched.now c → ⊥)
-            → IsCyclic (A.refers after.now) c → In cyclic.now c }
+            → IsCyclic (A.refers after.now) c → has_cell cyclic.now c ≡ true }
         ensures found { IsFound (A.refers after.now) (A.formula after.now) touched.now self.new }
     {
         fill(&mut self.marks, false);

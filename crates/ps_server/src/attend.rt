@@ -9,16 +9,16 @@ ghost use Rattle.ps_desk.specs.Seats.{SeatLines};
 ghost use Rattle.ps_server.specs.Sessions.{IsAttended};
 
 use crate::arrival::{Arrival, Speech};
-use crate::connection::{Attended, DeskSeat, KeptSeat, attend_kept, attend_lines};
+use crate::connection::{Attended, DeskSession, KeptSession, attend_kept, attend_lines};
 use crate::counts::Counts;
 use crate::guard::resume;
 use crate::line_stream::LineStream;
 use crate::shared::SharedState;
-use ps_desk::{Desk, DeskName, Pass, Presence};
+use ps_desk::{Desk, DeskName, Pass, Presence, Watch};
 use ps_device::{PIECE_BYTES, Sink, Source, Writing};
 use ps_eval::Meter;
 use ps_keep::Device;
-use ps_kept_desk::KeptPlace;
+use ps_kept_desk::DurablePosition;
 use ps_lines::LINE_LIMIT;
 use ps_page::{BrowserStream, MessageSink, MessageSource, drain};
 use ps_session::{HeldOutput, Resources, RunFault};
@@ -37,9 +37,9 @@ const ROOM: usize = 2 * PIECE_BYTES;
 const DRAIN: u64 = 100;
 
 /// The end of a server's session; if the sessions have a keeper, all that it was sent is kept.
-pub(crate) type SessionEnd<L> = Attended<L, Option<KeptPlace<L>>>;
+pub(crate) type SessionEnd<L> = Attended<L, Option<DurablePosition<L>>>;
 
-/// Answers each line of a connection at a seat of a desk, to the end of its input.
+/// Answers each line of a connection at a slot of a desk, to the end of its input.
 ///
 /// It sends only what is shown to all, and, if the sessions have a keeper, only what is kept as well.
 ///
@@ -57,14 +57,15 @@ pub(crate) fn attend<
     shared: &SharedState<L, D>,
     arrival: &Arrival,
     idle: Option<Duration>,
+    watch: Option<Watch<'_>>,
 ) -> SessionEnd<L>
     ensures attended { IsAttended L.replica L.opening pass result.pass }
     ensures kept { IsSome shared.now.keeper
-        → OnOk result.ended (IsSomeAnd result.covered (λ place. IsPrefix result.pass.list place)) }
+        → OnOk result.ended (IsSomeAnd result.covered (λ position. IsPrefix result.pass.list position)) }
 {
     let Arrival { stream, speech } = arrival;
-    let presence = Presence::of(stream);
-    let at = DeskSeat {
+    let presence = Presence::of(stream).watched_by(watch);
+    let at = DeskSession {
         desk,
         pass,
         presence,
@@ -113,7 +114,7 @@ fn attend_lines_of<
     M: Ledger,
 >(
     resources: Resources<'_, R>,
-    at: DeskSeat<'_, L, W>,
+    at: DeskSession<'_, L, W>,
     shared: &SharedState<L, D>,
     front: &[u8],
     stream: LineStream<'_>,
@@ -125,7 +126,7 @@ fn attend_lines_of<
     requires evaluations { IsBlankOf counts.evaluations M.name M.parts }
     ensures attended { IsAttended L.replica L.opening at.entry.pass result.pass }
     ensures kept { IsSome shared.now.keeper
-        → OnOk result.ended (IsSomeAnd result.covered (λ place. IsPrefix result.pass.list place)) }
+        → OnOk result.ended (IsSomeAnd result.covered (λ position. IsPrefix result.pass.list position)) }
 {
     let writer = stream.connection();
     let devices = Devices {
@@ -149,7 +150,7 @@ fn attend_browser<
     M: Ledger,
 >(
     resources: Resources<'_, R>,
-    at: DeskSeat<'_, L, W>,
+    at: DeskSession<'_, L, W>,
     shared: &SharedState<L, D>,
     browser: Browser<'_>,
     counts: Counts,
@@ -160,7 +161,7 @@ fn attend_browser<
     requires evaluations { IsBlankOf counts.evaluations M.name M.parts }
     ensures attended { IsAttended L.replica L.opening at.entry.pass result.pass }
     ensures kept { IsSome shared.now.keeper
-        → OnOk result.ended (IsSomeAnd result.covered (λ place. IsPrefix result.pass.list place)) }
+        → OnOk result.ended (IsSomeAnd result.covered (λ position. IsPrefix result.pass.list position)) }
 {
     let alloc = resources.alloc;
     let Browser { stream, idle } = browser;
@@ -185,7 +186,7 @@ struct Devices<S: Source + Drop, K: Sink + Drop> {
     evaluations: Blank,
 }
 
-/// Answers each line of a source on a sink, by a seat at a desk.
+/// Answers each line of a source on a sink, at a slot of a desk.
 fn attend_over<
     L: DeskName,
     W: Wait + Drop,
@@ -197,7 +198,7 @@ fn attend_over<
     M: Ledger,
 >(
     resources: Resources<'_, R>,
-    at: DeskSeat<'_, L, W>,
+    at: DeskSession<'_, L, W>,
     shared: &SharedState<L, D>,
     devices: Devices<S, K>,
 ) -> SessionEnd<L>
@@ -205,7 +206,7 @@ fn attend_over<
     requires evaluations { IsBlankOf devices.evaluations M.name M.parts }
     ensures attended { IsAttended L.replica L.opening at.entry.pass result.pass }
     ensures kept { IsSome shared.now.keeper
-        → OnOk result.ended (IsSomeAnd result.covered (λ place. IsPrefix result.pass.list place)) }
+        → OnOk result.ended (IsSomeAnd result.covered (λ position. IsPrefix result.pass.list position)) }
 {
     let Devices {
         mut source,
@@ -238,7 +239,7 @@ fn unread<L: DeskName>(pass: Pass<L>, fault: RunFault) -> SessionEnd<L>
     }
 }
 
-/// Answers each line of a source on an output by a seat at a desk, to the end of the input.
+/// Answers each line of a source on an output at a slot of a desk, to the end of the input.
 ///
 /// If the sessions have a keeper, all that this one has seen is kept before any reply is sent.
 fn answer<
@@ -254,19 +255,19 @@ fn answer<
     resources: Resources<'_, R>,
     source: &mut S,
     sink: &mut HeldOutput<K, N>,
-    at: DeskSeat<'_, L, W>,
+    at: DeskSession<'_, L, W>,
     shared: &SharedState<L, D>,
     meter: &mut Meter<M>,
 ) -> SessionEnd<L>
     ensures attended { IsAttended L.replica L.opening at.entry.pass result.pass }
     ensures told { IsSome shared.now.keeper → IsSome result.covered }
-    ensures covered { IfSome result.covered (λ place. (read : List ℕ)
+    ensures covered { IfSome result.covered (λ position. (read : List ℕ)
         × Consumes (S.remaining source.old) (S.remaining source.new) read
-        × IsCovered (SeatLines L.replica L.opening) (λ seen. IsPrefix seen.list place)
+        × IsCovered (SeatLines L.replica L.opening) (λ seen. IsPrefix seen.list position)
         (IsAtEnd (S.remaining source.new)) at.entry.pass (held_contents K.contents sink.old) read
         result.pass (held_contents K.contents sink.new) (held_waiting K.waiting sink.new)) }
     ensures kept { IsSome shared.now.keeper
-        → OnOk result.ended (IsSomeAnd result.covered (λ place. IsPrefix result.pass.list place)) }
+        → OnOk result.ended (IsSomeAnd result.covered (λ position. IsPrefix result.pass.list position)) }
 {
     let Some(keeper) = shared.keeper() else {
         let Attended { pass, ended, .. } = attend_lines(resources, source, sink, at, meter);
@@ -276,7 +277,7 @@ fn answer<
             ended,
         };
     };
-    let at = KeptSeat { seat: at, keeper };
+    let at = KeptSession { seat: at, keeper };
     let mut marker = shared.marker();
     let attended = attend_kept(resources, source, sink, at, meter, &mut marker);
     Attended {

@@ -8,11 +8,11 @@ ghost use Rattle.ps_session.specs.Transcript.{Answered, Stopped, Transcribed};
 ghost use Rattle.ps_desk.specs.Seats.{SeatLines};
 ghost use Rattle.ps_server.specs.Sessions.{IsAttended};
 
-use ps_desk::{Desk, DeskName, Pass, Presence, Publisher, Seat, ShownPlace};
+use ps_desk::{Desk, DeskName, Pass, Presence, Publisher, Seat, ShownPosition};
 use ps_device::{Sink, Source};
 use ps_eval::Meter;
 use ps_keep::Device;
-use ps_kept_desk::{DeskKeeper, KeptPlace, SeatKeeper};
+use ps_kept_desk::{DeskKeeper, DurablePosition, SeatKeeper};
 use ps_lines::{Unwatched, Watcher};
 use ps_session::{HeldBack, HeldOutput, Resources, RunFault, converse};
 use std::sync::Wait;
@@ -31,22 +31,22 @@ pub struct Attended<L: DeskName, K> {
     pub ended: Result<u64, RunFault>,
 }
 
-/// A seat at a desk.
+/// A session at a desk.
 #[derive(Drop)]
-pub struct DeskSeat<'a, L: DeskName, W: Wait + Drop> {
+pub struct DeskSession<'a, L: DeskName, W: Wait + Drop> {
     /// The desk.
     pub desk: &'a Desk<L, W>,
-    /// The pass of the seat.
+    /// The pass of its slot.
     pub pass: Pass<L>,
     /// The peer of the session.
     pub presence: Presence<'a>,
 }
 
-/// Answers each line of a source on an output by a seat at a desk, to the end of the input.
+/// Answers each line of a source on an output at a slot of a desk, to the end of the input.
 ///
 /// All that the session has seen, made by any session, is shown to all others before any reply is sent.
 ///
-/// At any end, also after a fault, `IsCovered` holds: there is a state of the seat, between two of the lines carried
+/// At any end, also after a fault, `IsCovered` holds: there is a state of its `Seat`, between two of the lines carried
 /// out, whose list is a beginning of the one that is shown. What was sent are replies to the lines up to that state. If
 /// the two devices show their bytes, what was read and written is the transcript of a session at the desk.
 ///
@@ -63,9 +63,9 @@ pub fn attend_lines<
     resources: Resources<'_, R>,
     source: &mut S,
     sink: &mut HeldOutput<K, N>,
-    at: DeskSeat<'_, L, W>,
+    at: DeskSession<'_, L, W>,
     meter: &mut Meter<M>,
-) -> Attended<L, ShownPlace<L>>
+) -> Attended<L, ShownPosition<L>>
     ensures transcribed { IfOk result.ended (λ answered. (read : List ℕ)
         × Consumes (S.remaining source.old) (S.remaining source.new) read
         × IsAtEnd (S.remaining source.new)
@@ -97,7 +97,7 @@ pub fn attend_lines<
     ensures source_failed { result.ended ≡ Err RunFault.Source → S.failures source.old < S.failures source.new }
     ensures attended { IsAttended L.replica L.opening at.entry.pass result.pass }
 {
-    let DeskSeat {
+    let DeskSession {
         desk,
         pass,
         presence,
@@ -122,7 +122,7 @@ pub fn attend_lines<
         &mut Unwatched,
         &mut publisher,
     );
-    let pass = seat.leave();
+    let (pass, _) = seat.leave();
     Attended {
         pass,
         covered: publisher.leave(),
@@ -130,20 +130,20 @@ pub fn attend_lines<
     }
 }
 
-/// A seat at a desk that is kept.
+/// A session at a desk that is kept.
 #[derive(Drop)]
-pub struct KeptSeat<'a, L: DeskName, W: Wait + Drop, D: Device + Drop> {
-    /// The seat.
-    pub seat: DeskSeat<'a, L, W>,
+pub struct KeptSession<'a, L: DeskName, W: Wait + Drop, D: Device + Drop> {
+    /// The session at its desk.
+    pub seat: DeskSession<'a, L, W>,
     /// The keeper that was made for the desk.
     pub keeper: &'a DeskKeeper<L, D>,
 }
 
-/// Answers each line of a source on an output by a seat at a kept desk, to the end of the input, with a watcher.
+/// Answers each line of a source on an output at a slot of a kept desk, to the end of the input, with a watcher.
 ///
 /// All that the session has seen, made by any session, is shown to all others and kept before any reply is sent.
 ///
-/// At any end, also after a fault, `IsCovered` holds: there is a state of the seat, between two of the lines carried
+/// At any end, also after a fault, `IsCovered` holds: there is a state of its `Seat`, between two of the lines carried
 /// out, whose list is a beginning of the one that is kept. What was sent are replies to the lines up to that state.
 ///
 /// Cost: that of [`converse`]. It may wait while another session syncs.
@@ -161,10 +161,10 @@ pub fn attend_kept<
     resources: Resources<'_, R>,
     source: &mut S,
     sink: &mut HeldOutput<K, N>,
-    at: KeptSeat<'_, L, W, D>,
+    at: KeptSession<'_, L, W, D>,
     meter: &mut Meter<M>,
     watcher: &mut V,
-) -> Attended<L, KeptPlace<L>>
+) -> Attended<L, DurablePosition<L>>
     ensures covered { (read : List ℕ) × Consumes (S.remaining source.old) (S.remaining source.new) read
         × IsCovered (SeatLines L.replica L.opening) (λ seen. IsPrefix seen.list result.covered)
         (IsAtEnd (S.remaining source.new)) at.entry.seat.pass (held_contents K.contents sink.old) read
@@ -173,8 +173,8 @@ pub fn attend_kept<
     ensures flushed { OnOk result.ended (held_waiting K.waiting sink.new ≡ []) }
     ensures attended { IsAttended L.replica L.opening at.entry.seat.pass result.pass }
 {
-    let KeptSeat {
-        seat: DeskSeat {
+    let KeptSession {
+        seat: DeskSession {
             desk,
             pass,
             presence,
@@ -194,7 +194,7 @@ pub fn attend_kept<
         SeatKeeper<'_, L, W, D, R>,
     >(resources, source, sink, &mut seat, meter, watcher, &mut own);
     Attended {
-        pass: seat.leave(),
+        pass: seat.leave().0,
         covered: own.leave(),
         ended,
     }

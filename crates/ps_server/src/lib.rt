@@ -7,7 +7,8 @@
 //!
 //! The first bytes of a connection decide what it is. A request of HTTP is answered by the page, a refusal or a
 //! WebSocket, as `ps_page` says. Anything else is a session of lines. Both kinds of session wait for a free slot and
-//! run in a thread of their own. A WebSocket for the news takes no slot.
+//! run in a thread of their own. A WebSocket for the news takes neither a slot nor a thread. One thread of the server
+//! sleeps until there are changes. Another one sleeps until such a WebSocket, or a session that waits, says something.
 //!
 //! This crate is not the program: it knows no command line and no exit status, opens no port and no file, and writes
 //! only replies and refusals on connections. `ps_session` decides what a line means.
@@ -17,7 +18,7 @@
 //! - [`serve_on`] returns the sheet that it was given, with the changes that its slots' passes appended through all
 //!   their sessions (`IsServed`).
 //! - At the end of [`serve_kept_on`] the journal has all of the sheet.
-//! - [`attend_lines`] makes what a session reads and writes the transcript of a seat at the desk.
+//! - [`attend_lines`] makes what a session reads and writes the transcript of a `Seat` at the desk.
 //! - [`attend_kept`] sends only what is durable, however the session ends (`IsCovered`, of `ps_session`).
 //!
 //! For example, two sessions of one server answer `set A1 5` with `ok 1` and `set A2 6` with `ok 2`. The sheet that is
@@ -28,11 +29,12 @@
 
 mod arrival;
 mod attend;
+mod bell;
 mod connection;
 mod counts;
-mod entrance;
 mod guard;
 mod line_stream;
+mod listener;
 mod lobby;
 mod marker;
 mod options;
@@ -42,8 +44,9 @@ mod sessions;
 mod shared;
 mod slot;
 mod warning;
+mod watchers;
 
-pub use connection::{Attended, DeskSeat, KeptSeat, attend_kept, attend_lines};
+pub use connection::{Attended, DeskSession, KeptSession, attend_kept, attend_lines};
 pub use counts::Counts;
 pub use guard::{FRONT_LIMIT, Unadmitted, admit, resume};
 pub use options::ServerOptions;

@@ -6,7 +6,7 @@ use ps_grid::Refusal;
 use ps_page::About;
 use std::alloc::{AllocError, Global};
 use std::net::{Shutdown, TcpStream};
-use std::sync::atomic::{AtomicBool, AtomicU64, Ordering};
+use std::sync::atomic::{AtomicU64, Ordering};
 use std::sync::{Condvar, CondvarTimeouts, Mutex, Wait};
 use std::time::{Clock, Duration, Instant};
 
@@ -15,9 +15,6 @@ const MOST: usize = 512;
 
 /// The most connections whose first bytes may be awaited at a time. Each has two files meanwhile.
 const MOST_UNHEARD: usize = 200;
-
-/// The most browsers that may follow the changes at a time.
-const MOST_FOLLOWERS: u64 = 512;
 
 /// Within how many milliseconds a connection is heard once its bytes are there.
 const SOON: u64 = 50;
@@ -49,7 +46,6 @@ struct Present {
     has_changed: bool,
     /// whether no slot is given any more
     has_no_slots: bool,
-    is_closed: bool,
 }
 
 /// The connections that have no slot yet.
@@ -68,10 +64,6 @@ pub(crate) struct Lobby {
     title: String,
     /// how many browsers have a slot
     browsers: AtomicU64,
-    /// how many browsers follow the changes
-    followers: AtomicU64,
-    /// whether a connection has no thread of its own
-    is_crowded: AtomicBool,
 }
 
 impl Present {
@@ -99,7 +91,6 @@ impl Lobby {
             next: 0,
             has_changed: false,
             has_no_slots: false,
-            is_closed: false,
         };
         Ok(Lobby {
             present: Mutex::new(present),
@@ -110,8 +101,6 @@ impl Lobby {
             no_seat: format!(in alloc; "{}\n", Refusal::Seat)?,
             title: options.title.to_string(alloc)?,
             browsers: AtomicU64::new(0),
-            followers: AtomicU64::new(0),
-            is_crowded: AtomicBool::new(false),
         })
     }
 
@@ -120,44 +109,14 @@ impl Lobby {
         self.idle
     }
 
-    /// Reads what a connection wants.
-    pub(crate) fn hear<C: Clock>(&self, clock: &C, stream: TcpStream) -> Request {
-        Request::read(clock, self.alloc, self.idle, self.about(), stream)
-    }
-
-    /// Returns the facts about the sheet that a page asks for.
-    fn about(&self) -> About<'_> {
-        let followers = self.followers.load(Ordering::SeqCst);
-        About {
+    /// Reads what a connection wants, where one more browser may follow the changes if `has_room` is true.
+    pub(crate) fn hear<C: Clock>(&self, clock: &C, stream: TcpStream, has_room: bool) -> Request {
+        let about = About {
             here: self.browsers.load(Ordering::SeqCst),
             title: self.title.as_str(),
-            has_room: followers < MOST_FOLLOWERS && !self.is_crowded.load(Ordering::SeqCst),
-        }
-    }
-
-    /// Notes whether a connection has no thread of its own. Then no browser may follow the changes: it would hold all
-    /// others up.
-    pub(crate) fn set_crowded(&self, is_crowded: bool) {
-        self.is_crowded.store(is_crowded, Ordering::SeqCst);
-    }
-
-    /// Returns whether one more browser may follow the changes. If so, it is counted.
-    pub(crate) fn follows(&self) -> bool {
-        if self.followers.fetch_add(1, Ordering::SeqCst) < MOST_FOLLOWERS {
-            return true;
-        }
-        self.follows_no_more();
-        false
-    }
-
-    /// Notes that a browser no longer follows the changes.
-    pub(crate) fn follows_no_more(&self) {
-        self.followers.fetch_sub(1, Ordering::SeqCst);
-    }
-
-    /// Returns whether the lobby is closed.
-    pub(crate) fn is_closed<R: Wait>(&self, rt: &R) -> bool {
-        self.present.lock(rt).is_closed
+            has_room,
+        };
+        Request::read(clock, self.alloc, self.idle, about, stream)
     }
 
     /// Tells a client that there is no slot, and closes its connection.
@@ -248,15 +207,31 @@ impl Lobby {
         has_changed
     }
 
+    /// Returns whether something happened since the last call or pause.
+    pub(crate) fn has_changed<R: Wait>(&self, rt: &R) -> bool {
+        let mut present = self.present.lock(rt);
+        let has_changed = present.has_changed;
+        present.has_changed = false;
+        has_changed
+    }
+
+    /// Returns for how long the arrival that has waited longest may still wait; none if none waits.
+    pub(crate) fn patience_left<R: Wait + Clock>(&self, rt: &R) -> Option<Duration> {
+        let present = self.present.lock(rt);
+        let since = present.waiting.first()?.since;
+        drop(present);
+        let Ok(now) = Instant::now(rt) else {
+            return Some(Duration::ZERO);
+        };
+        match now.checked_duration_since(since) {
+            Some(waited) => Some(self.patience.saturating_sub(waited)),
+            None => Some(self.patience),
+        }
+    }
+
     /// Returns whether a connection waits for a slot.
     pub(crate) fn has_waiting<R: Wait>(&self, rt: &R) -> bool {
         !self.present.lock(rt).waiting.is_empty()
-    }
-
-    /// Returns whether the lobby is empty.
-    pub(crate) fn is_empty<R: Wait>(&self, rt: &R) -> bool {
-        let present = self.present.lock(rt);
-        present.waiting.is_empty() && present.unheard.is_empty()
     }
 
     /// Takes out the arrival that has waited longest.
@@ -301,10 +276,9 @@ impl Lobby {
         }
     }
 
-    /// Closes the lobby: no connection is heard, gets a slot or follows the changes any more.
+    /// Closes the lobby: no connection is heard or gets a slot any more.
     pub(crate) fn close<R: Wait>(&self, rt: &R) {
-        let mut present = self.present.lock(rt);
-        present.is_closed = true;
+        let present = self.present.lock(rt);
         for unheard in &present.unheard {
             let _ = unheard.handle.shutdown(Shutdown::Both);
         }

@@ -1,24 +1,20 @@
 //! What the thread of a new connection does.
 
 use crate::arrival::Request;
-use crate::lobby::Lobby;
-use crate::shared::{Server, SharedState};
-use ps_desk::{Desk, DeskName, desk_is_sync};
+use crate::shared::Server;
+use ps_desk::{DeskName, desk_is_sync};
 use ps_keep::Device;
 use ps_kept_desk::keeper_is_sync;
-use ps_page::{NewsSocket, turn_browser_away};
 use ps_session::Resources;
-use std::net::{Shutdown, TcpStream};
+use std::net::TcpStream;
 use std::sync::Wait;
 use std::thread::{Scope, Threads};
-use std::time::{Clock, Duration};
+use std::time::Clock;
 
-/// After how many milliseconds a thread that has nothing to report looks whether its browser is still there.
-const SLICE: u64 = 500;
-
-/// Lets a connection in. A thread of its own reads its first bytes; if none can be started, they are read here.
+/// Lets a connection in, and returns whether it could: it is turned away if there is no second handle to it.
 ///
-/// If the connection asks for the news, that thread reports them.
+/// A thread of its own reads its first bytes; if none can be started, they are read here. If the connection asks for
+/// the news, others report them.
 pub(crate) fn let_in<
     's,
     E,
@@ -31,20 +27,25 @@ pub(crate) fn let_in<
     resources: Resources<'s, R>,
     server: &Server<'s, L, W, D>,
     stream: TcpStream,
-) {
+) -> bool {
     // for the facts that threads may share the desk and the keeper
     desk_is_sync::<L, W>();
     keeper_is_sync::<L, D>();
     let lobby = server.lobby;
     let desk = server.desk;
     let shared = server.shared;
+    let watchers = server.watchers;
     let rt = resources.threads;
     let Some(number) = lobby.number(rt, &stream) else {
         lobby.turn_away(stream);
-        return;
+        return false;
     };
     let begun = scope.spawn(move || {
-        let news = match lobby.hear(rt, stream) {
+        let has_room = match watchers {
+            Some(watchers) => watchers.has_room(),
+            None => false,
+        };
+        let news = match lobby.hear(rt, stream, has_room) {
             Request::Slot(arrival) => {
                 lobby.enter(rt, arrival);
                 None
@@ -53,66 +54,14 @@ pub(crate) fn let_in<
             Request::Nothing => None,
         };
         lobby.is_heard(rt, number);
-        if let Some(stream) = news {
-            tell_news(resources, desk, shared, lobby, &stream);
+        shared.bell().ring();
+        if let (Some(stream), Some(watchers)) = (news, watchers) {
+            watchers.join(resources, desk, shared, stream);
         }
     });
     match begun {
         Ok(_) => {}
-        Err(refused) => {
-            lobby.set_crowded(true);
-            (refused.value)();
-            lobby.set_crowded(false);
-        }
+        Err(refused) => (refused.value)(),
     }
-}
-
-/// Reports to a browser how many changes there are, at once and after each change, until it leaves or the server ends.
-///
-/// The browser is turned away if too many others follow the changes.
-fn tell_news<L: DeskName, W: Wait + Drop, D: Device + Drop, R: Wait + Clock>(
-    resources: Resources<'_, R>,
-    desk: &Desk<L, W>,
-    shared: &SharedState<L, D>,
-    lobby: &Lobby,
-    stream: &TcpStream,
-) {
-    if lobby.follows() {
-        let mut socket = NewsSocket::new(resources.alloc, stream);
-        tell_all(resources, desk, shared, lobby, &mut socket);
-        socket.leave();
-        lobby.follows_no_more();
-    } else {
-        turn_browser_away(resources.alloc, stream);
-    }
-    let _ = stream.shutdown(Shutdown::Both);
-}
-
-/// Reports to a browser how many changes there are, as long as it is there and the server goes on.
-///
-/// If the sessions have a keeper, each change is kept first.
-fn tell_all<L: DeskName, W: Wait + Drop, D: Device + Drop, R: Wait + Clock>(
-    resources: Resources<'_, R>,
-    desk: &Desk<L, W>,
-    shared: &SharedState<L, D>,
-    lobby: &Lobby,
-    socket: &mut NewsSocket<'_>,
-) {
-    let rt = resources.threads;
-    let mut told = desk.news(rt, 0, Duration::ZERO);
-    if !shared.has_kept(resources, desk) || socket.tell(told).is_err() {
-        return;
-    }
-    for _ in rt.forever() {
-        let version = desk.news(rt, told, Duration::from_millis(SLICE));
-        if lobby.is_closed(rt) || !socket.is_there() {
-            return;
-        }
-        if version > told {
-            if !shared.has_kept(resources, desk) || socket.tell(version).is_err() {
-                return;
-            }
-            told = version;
-        }
-    }
+    true
 }

@@ -22,6 +22,7 @@ use ps_kept_desk::{DeskKeeper, Ended};
 use ps_session::Resources;
 use ps_sheet::Sheet;
 use std::marker::Brand;
+use std::net::Net;
 use std::sync::Wait;
 use std::thread::Threads;
 use std::time::Clock;
@@ -57,9 +58,10 @@ pub struct Closed<J = ()> {
 ///   ended.
 /// - `Memory` and `Seat`: before the first connection is accepted.
 ///
-/// Cost: that of the lines. A session under way takes a thread and 0.2 MB of memory, and up to 0.3 MB more if a long
-/// line was pushed to it. A free slot takes next to nothing. Memory doesn't grow with the sessions that have ended.
-pub fn serve_on<R: Threads + Wait + Clock + Sync, W: Warn>(
+/// Cost: that of the lines, and two threads that sleep. A session under way takes a thread and 0.2 MB of memory, and up
+/// to 0.3 MB more if a long line was pushed to it. A free slot takes next to nothing. Memory doesn't grow with the
+/// sessions that have ended.
+pub fn serve_on<R: Net + Threads + Wait + Clock + Sync, W: Warn>(
     resources: Resources<'_, R>,
     options: ServerOptions<'_>,
     sheet: Sheet,
@@ -95,7 +97,7 @@ pub fn serve_on<R: Threads + Wait + Clock + Sync, W: Warn>(
 /// `Device`, as above, and the errors of [`serve_on`].
 ///
 /// Cost: that of `serve_on`, and of the syncs, one for all sessions that wait at a time.
-pub fn serve_kept_on<R: Threads + Wait + Clock + Sync, D: Device + Drop + Send, W: Warn>(
+pub fn serve_kept_on<R: Net + Threads + Wait + Clock + Sync, D: Device + Drop + Send, W: Warn>(
     resources: Resources<'_, R>,
     options: ServerOptions<'_>,
     sheet: Sheet,
@@ -122,7 +124,7 @@ pub fn serve_kept_on<R: Threads + Wait + Clock + Sync, D: Device + Drop + Send, 
 }
 
 /// Serves sessions on a sheet, with a journal or none, until as many as were asked for have ended.
-fn serve_sheet<R: Threads + Wait + Clock + Sync, D: Device + Drop + Send, W: Warn>(
+fn serve_sheet<R: Net + Threads + Wait + Clock + Sync, D: Device + Drop + Send, W: Warn>(
     resources: Resources<'_, R>,
     options: ServerOptions<'_>,
     sheet: Sheet,
@@ -158,7 +160,7 @@ fn seats_for(options: ServerOptions<'_>) -> usize
 /// Serves the sessions of a desk that is made from these parts, with `changes` changes, and returns what it closed.
 fn serve_parts<
     L: DeskName + Send + Sync,
-    R: Threads + Wait + Clock + Sync,
+    R: Net + Threads + Wait + Clock + Sync,
     D: Device + Drop + Send,
     W: Warn,
 >(

@@ -4,25 +4,27 @@ ghost use Rattle.std.specs.Prelude.{vec_len};
 ghost use Rattle.ps_grid.specs.declared.refusal.Refusal.TheVariants.{Device, Memory};
 ghost use Rattle.ps_server.specs.Sessions.{AreBack, Back};
 
-use crate::entrance::{Entrance, passes as is_passing};
+use crate::listener::{Listener, passes as is_passing};
 use crate::lobby::Lobby;
 use crate::options::ServerOptions;
 use crate::reception;
 use crate::shared::{Server, SharedState};
 use crate::slot::{EndFlag, Slot};
 use crate::warning::Warn;
+use crate::watchers::{Watchers, start};
 use ps_desk::{Desk, DeskName, Pass};
 use ps_grid::Refusal;
 use ps_keep::Device;
 use ps_session::Resources;
 use std::alloc::{AllocError, Global};
+use std::net::Net;
 use std::sync::Wait;
 use std::sync::atomic::AtomicBool;
 use std::thread::{Scope, Threads};
 use std::time::{Clock, Instant};
 use std::{io, thread};
 
-/// The length of a pause in which nobody comes, in milliseconds.
+/// The length of a pause in which nobody comes, in milliseconds, if the main thread can't sleep until somebody does.
 const PAUSE: u64 = 5;
 
 /// The length of a pause in which no connection can be accepted, in milliseconds.
@@ -51,8 +53,9 @@ fn set_up<'s, L: DeskName>(
     ensures firsts { map (λ t. t.first) slots.new.items ≡ passes.items }
 {
     for pass in passes {
-        let flag = EndFlag::new(&flags[slots.len()]);
-        slots.push_reserved(Slot::new(pass, flag));
+        let number = slots.len();
+        let flag = EndFlag::new(&flags[number]);
+        slots.push_reserved(Slot::new(pass, flag, number));
     }
 }
 
@@ -100,8 +103,7 @@ fn turn_all<
 
 /// Lets one connection in, and returns whether something happened.
 ///
-/// If `may_wait` is true it waits for a connection. Else it pauses if there is none, or if none can be accepted for
-/// now.
+/// If there is none it rests. It pauses if none can be accepted or let in for now.
 fn let_in<
     's,
     E,
@@ -114,17 +116,19 @@ fn let_in<
     scope: &Scope<'s, E>,
     resources: Resources<'s, R>,
     server: &Server<'s, L, W, D>,
-    entrance: &mut Entrance<'_>,
-    may_wait: bool,
+    listener: &mut Listener<'_>,
     warner: &mut T,
 ) -> io::Result<bool> {
     let rt = resources.threads;
-    match entrance.come(rt, may_wait) {
+    match listener.come(rt) {
         Ok(Some(stream)) => {
-            reception::let_in(scope, resources, server, stream);
-            Ok(true)
+            if reception::let_in(scope, resources, server, stream) {
+                return Ok(true);
+            }
+            warner.warn_of_crowd();
+            Ok(server.lobby.pause(rt, CROWDED_PAUSE))
         }
-        Ok(None) => Ok(server.lobby.pause(rt, PAUSE)),
+        Ok(None) => Ok(rest(rt, server.lobby, listener)),
         Err(error) if server.asked.is_none() && is_passing(&error) => {
             warner.warn_of_crowd();
             Ok(server.lobby.pause(rt, CROWDED_PAUSE))
@@ -133,12 +137,14 @@ fn let_in<
     }
 }
 
-/// Returns whether nothing can happen at a server before a connection comes.
-fn may_wait<L: DeskName, W: Wait + Drop, D: Device + Drop, R: Wait>(
-    rt: &R,
-    server: &Server<'_, L, W, D>,
-) -> bool {
-    server.lobby.is_empty(rt) && !server.shared.is_watchful()
+/// Waits until a connection comes, something happens, or a connection has waited too long for a slot. Returns whether
+/// something happened.
+fn rest<R: Wait + Clock>(rt: &R, lobby: &Lobby, listener: &mut Listener<'_>) -> bool {
+    if listener.sleep(lobby.patience_left(rt)) {
+        lobby.has_changed(rt)
+    } else {
+        lobby.pause(rt, PAUSE)
+    }
 }
 
 /// Gives the slots to the connections that come, until as many sessions as were asked for have begun.
@@ -157,7 +163,7 @@ fn give_slots<
     scope: &Scope<'s, E>,
     resources: Resources<'s, R>,
     server: &Server<'s, L, W, D>,
-    entrance: &mut Entrance<'_>,
+    listener: &mut Listener<'_>,
     slots: &mut Vec<Slot<'s, L>>,
     warner: &mut T,
 ) -> Option<u64>
@@ -172,8 +178,7 @@ fn give_slots<
         if !server.shared.goes_on() {
             return None;
         }
-        let may_wait = may_wait(resources.threads, server);
-        let Ok(happened) = let_in(scope, resources, server, entrance, may_wait, warner) else {
+        let Ok(happened) = let_in(scope, resources, server, listener, warner) else {
             return None;
         };
         // a connection that comes while slots are given gets one at the next turn
@@ -201,7 +206,7 @@ fn see_out<
     scope: &Scope<'s, E>,
     resources: Resources<'s, R>,
     server: &Server<'s, L, W, D>,
-    entrance: &mut Entrance<'_>,
+    listener: &mut Listener<'_>,
     slots: &Vec<Slot<'s, L>>,
     warner: &mut T,
 ) {
@@ -210,7 +215,7 @@ fn see_out<
         let is_over = slots.iter().all(|slot| slot.is_quiet());
         if is_over
             || !server.shared.goes_on()
-            || let_in(scope, resources, server, entrance, false, warner).is_err()
+            || let_in(scope, resources, server, listener, warner).is_err()
         {
             return;
         }
@@ -259,7 +264,7 @@ pub(crate) fn serve_all<
     L: DeskName + Send + Sync,
     W: Wait + Drop + Send,
     D: Device + Drop + Send,
-    R: Threads + Wait + Clock + Sync,
+    R: Net + Threads + Wait + Clock + Sync,
     T: Warn,
 >(
     resources: Resources<'_, R>,
@@ -278,6 +283,11 @@ pub(crate) fn serve_all<
     let flags = end_flags.as_slice();
     let lobby = Lobby::new(resources.alloc, options)?;
     let lobby = &lobby;
+    let (watchers, ears) = match Watchers::open(resources.threads, resources.alloc, passes.len()) {
+        Some((watchers, ears)) => (Some(watchers), Some(ears)),
+        None => (None, None),
+    };
+    let watchers = watchers.as_ref();
     thread::scope(
         thread::scope_env(),
         resources.threads,
@@ -290,23 +300,35 @@ pub(crate) fn serve_all<
         {
             let mut slots = Vec::with_capacity(resources.alloc, passes.len())?;
             let mut back = Vec::with_capacity(resources.alloc, passes.len())?;
-            let mut entrance = Entrance::new(options.listener);
+            let Ok(mut listener) = Listener::open(
+                resources.threads,
+                resources.alloc,
+                options.listener,
+                shared.bell(),
+            ) else {
+                return Err(Refusal::Device);
+            };
             set_up(passes, flags, &mut slots);
             let asked = options.sessions;
+            let watchers = start(scope, resources, desk, shared, watchers, ears);
             let server = Server {
                 desk,
                 shared,
                 lobby,
+                watchers,
                 asked,
             };
-            let given = give_slots(scope, resources, &server, &mut entrance, &mut slots, warner);
+            let given = give_slots(scope, resources, &server, &mut listener, &mut slots, warner);
             if given.is_some() {
-                see_out(scope, resources, &server, &mut entrance, &slots, warner);
+                see_out(scope, resources, &server, &mut listener, &slots, warner);
             }
             lobby.close(resources.threads);
-            entrance.close();
+            listener.close();
             hang_up(shared, &slots);
             end_all(resources.threads, slots, &mut back);
+            if let Some(watchers) = watchers {
+                watchers.close(resources.threads, desk);
+            }
             warn_by(shared, warner);
             match given {
                 Some(sessions) => Ok((sessions, back)),

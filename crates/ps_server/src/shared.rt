@@ -1,9 +1,11 @@
 //! What the sessions of a server share: a desk and perhaps its keeper.
 ghost use Rattle.std.specs.Prelude.{◌≡◌, is_some};
 
+use crate::bell::Bell;
 use crate::lobby::Lobby;
 use crate::marker::Marker;
-use ps_desk::{Desk, DeskName};
+use crate::watchers::Watchers;
+use ps_desk::{Desk, DeskName, Watch};
 use ps_keep::Device;
 use ps_kept_desk::DeskKeeper;
 use ps_session::Resources;
@@ -15,6 +17,7 @@ use std::sync::atomic::{AtomicBool, Ordering};
 #[derive(Drop)]
 pub(crate) struct SharedState<L: DeskName, D: Device + Drop> {
     keeper: Option<DeskKeeper<L, D>>,
+    bell: Bell,
     /// a sync failed
     is_stopped: AtomicBool,
     /// a session was pushed changes of the desk's own replica that were new
@@ -28,6 +31,7 @@ impl<L: DeskName, D: Device + Drop> SharedState<L, D> {
     {
         SharedState {
             keeper,
+            bell: Bell::new(),
             is_stopped: AtomicBool::new(false),
             is_elsewhere: AtomicBool::new(false),
         }
@@ -65,12 +69,14 @@ impl<L: DeskName, D: Device + Drop> SharedState<L, D> {
     pub(crate) fn marker(&self) -> Marker<'_> {
         Marker {
             mark: &self.is_elsewhere,
+            bell: &self.bell,
         }
     }
 
     /// Stops all sessions: what one of them has seen couldn't be kept.
     pub(crate) fn stop(&self) {
         self.is_stopped.store(true, Ordering::SeqCst);
+        self.bell.ring();
     }
 
     /// Returns whether sessions may go on.
@@ -84,9 +90,9 @@ impl<L: DeskName, D: Device + Drop> SharedState<L, D> {
         self.is_elsewhere.load(Ordering::SeqCst)
     }
 
-    /// Returns whether the sessions may have to stop at some time.
-    pub(crate) fn is_watchful(&self) -> bool {
-        self.keeper.is_some()
+    /// Returns the bell of the server.
+    pub(crate) fn bell(&self) -> &Bell {
+        &self.bell
     }
 
     /// Returns a second handle to the connection, if there is a keeper, to close the connection once sessions have to
@@ -105,6 +111,18 @@ pub(crate) struct Server<'s, L: DeskName, W: Wait + Drop, D: Device + Drop> {
     pub(crate) desk: &'s Desk<L, W>,
     pub(crate) shared: &'s SharedState<L, D>,
     pub(crate) lobby: &'s Lobby,
+    /// none if the system or the memory doesn't allow them
+    pub(crate) watchers: Option<&'s Watchers>,
     /// none if they have no end
     pub(crate) asked: Option<u64>,
+}
+
+impl<'s, L: DeskName, W: Wait + Drop, D: Device + Drop> Server<'s, L, W, D> {
+    /// Returns the watch of the slot with this number, if there is one.
+    pub(crate) fn watch(&self, number: usize) -> Option<Watch<'s>> {
+        match self.watchers {
+            Some(watchers) => Some(watchers.watch(number)),
+            None => None,
+        }
+    }
 }

@@ -5,7 +5,7 @@ ghost use Rattle.ps_server.specs.Sessions.{Attended, IsAttended};
 use crate::arrival::Arrival;
 use crate::attend::attend;
 use crate::shared::Server;
-use ps_desk::{DeskName, Pass, desk_is_sync};
+use ps_desk::{DeskName, Pass, Watch, desk_is_sync};
 use ps_keep::Device;
 use ps_kept_desk::keeper_is_sync;
 use ps_session::Resources;
@@ -56,7 +56,7 @@ impl<'s> EndFlag<'s> {
     }
 }
 
-/// A slot for sessions: it holds the pass of its seat, or a session has it in a thread of its own.
+/// A slot for sessions: it holds its pass, or a session has it in a thread of its own.
 ///
 /// A contract sees it as the pass that it began with, and the number of sessions that were begun.
 #[derive(Drop)]
@@ -64,6 +64,7 @@ pub(crate) struct Slot<'s, L: DeskName> {
     first: Snapshot<Pass<L>>,
     begun: u64,
     flag: EndFlag<'s>,
+    number: usize,
     /// a second handle to the connection of the last session, if it may have to be closed
     closing_handle: Option<TcpStream>,
     /// out while it changes
@@ -88,14 +89,15 @@ impl<'s, L: DeskName> Model for Slot<'s, L> {
 }
 
 impl<'s, L: DeskName> Slot<'s, L> {
-    /// Creates a slot that no session has had.
-    pub(crate) fn new(pass: Pass<L>, flag: EndFlag<'s>) -> Slot<'s, L>
+    /// Creates a slot with this number, which no session has had.
+    pub(crate) fn new(pass: Pass<L>, flag: EndFlag<'s>, number: usize) -> Slot<'s, L>
         ensures { result ≡ record { first = pass; begun = 0 } }
     {
         Slot {
             first: Snapshot::of(&pass),
             begun: 0,
             flag,
+            number,
             closing_handle: None,
             state: Some(Err(pass)),
         }
@@ -191,7 +193,8 @@ impl<'s, L: DeskName> Slot<'s, L> {
         let pass = given_back(resources.threads, self.state.take().unwrap());
         self.flag.lower();
         self.closing_handle = server.shared.closing_handle(&arrival.stream);
-        self.state = Some(begin(scope, resources, server, pass, arrival, self.flag));
+        let watch = server.watch(self.number);
+        self.state = Some(begin(scope, resources, server, pass, arrival, self.flag, watch));
         self.begun += 1;
     }
 }
@@ -211,6 +214,7 @@ fn begin<
     pass: Pass<L>,
     arrival: Arrival,
     flag: EndFlag<'s>,
+    watch: Option<Watch<'s>>,
 ) -> Holder<L>
     ensures { MatchResult result (λ h. h.promise.0.value ≡ pass) (λ p. IsAttended L.replica L.opening pass p) }
 {
@@ -227,9 +231,11 @@ fn begin<
             ensures { IsAttended L.replica L.opening pass result }
         {
             lobby.has_slot(&arrival);
-            let end = attend(resources, desk, pass, shared, &arrival, lobby.idle());
+            let idle = lobby.idle();
+            let end = attend(resources, desk, pass, shared, &arrival, idle, watch);
             flag.raise();
             lobby.is_over(resources.threads, arrival);
+            shared.bell().ring();
             end.pass
         },
     );

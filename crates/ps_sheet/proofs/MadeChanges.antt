@@ -18,7 +18,7 @@ use Rattle.ps_sheet.specs.Reports.{IsReport}
 use Rattle.ps_sheet.specs.Sheet.{IsSheet, SheetView, Takes}
 use Rattle.ps_sheet.specs.Staging.{IsIdle, IsSameChange, IsStagedAs, IsStaging, IsWorkedOut, StagedView, StagingView}
 use Rattle.ps_sheet.specs.Staging.{prepared_of, sheet_of}
-use Rattle.ps_sheet.specs.Inside.Kept.{Makes}
+use Rattle.ps_sheet.specs.Inside.Kept.{Makes, Prepares}
 use Rattle.ps_delta.specs.declared.edit.Edit.{Edit}
 use Rattle.ps_delta.specs.declared.edit.Change.{Change}
 use Rattle.ps_delta.specs.declared.edit.Change.TheVariants.{Edit as ByEdit}
@@ -155,6 +155,21 @@ made_report x y z v q (Some p) is history worked before made told =
     IsReport (joined_history h) (joined_history (history_after change)) (shown_before change) (shown_at y.shown)
     p.report)
     (history ∙ ap (λ (w : SheetView). w.history) is) worked.report))))
+
+-- the change q that was prepared over the sheet v has what v has, and is worked out over what v shows
+pub prepared_over : (x y : StagingView) (v : SheetView) (q : PreparedView) (o : Option StagedView) → sheet_of x ≡ v
+    → y.replica ≡ x.replica → y.history ≡ x.history
+    → IsSomeAnd o (λ p. shown_before (prepared_of y p) ≡ shown_at x.shown)
+    → IsSomeAnd o (λ p. Prepares (prepared_of y p) q)
+    → (q.replica ≡ v.replica) × (q.history ≡ v.history) × (shown_before q ≡ shown_at v.shown)
+prepared_over x y v q None is replica history before same = absurd before
+prepared_over x y v q (Some p) is replica history before same = (
+  same.replica ∙ replica ∙ ap (λ (w : SheetView). w.replica) is,
+  same.history ∙ history ∙ ap (λ (w : SheetView). w.history) is,
+  ap (λ olds. put_back olds (shown_at q.shown)) same.olds
+      ∙ ap (λ shown. put_back p.olds (shown_at shown)) same.shown
+      ∙ before ∙ ap (λ (w : SheetView). shown_at w.shown) is,
+)
 
 -- of the delta of an edit that was made
 pub edit_made : (x y : SheetView) (e : Edit) (res : Result Report Refusal) (P : Entries → Type 0)

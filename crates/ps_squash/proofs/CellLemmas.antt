@@ -40,7 +40,7 @@ joined_at n (e ∷ xs) ys r c =
     ∙ ap (λ x. joined_cell x (state_of ys c)) (sym (state_of-there e xs c p)))
     (cases_eq e.0 c)
 
-state_of-append : (n : ℕ) (xs ys : Entries) → Rising n (cells_of (xs ++ ys))
+pub state_of-append : (n : ℕ) (xs ys : Entries) → Rising n (cells_of (xs ++ ys))
     → state_of (xs ++ ys) ≡ joined_state (state_of xs) (state_of ys)
 unfolding joined_state
 state_of-append n xs ys r = fun_ext (joined_at n xs ys r)

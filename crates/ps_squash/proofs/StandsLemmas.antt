@@ -6,16 +6,17 @@ use Rattle.std.proofs.Common.{append_assoc, append-nil, length-append}
 use Rattle.std.specs.Prelude.{⊤}
 use Rattle.std.proofs.lemmas.List.{take-append-drop}
 use Rattle.std.proofs.lemmas.List.Elements.{All-append, All-push}
-use Rattle.ps_delta.specs.State.{State, empty_state, joined_state}
-use Rattle.ps_delta.specs.Deltas.{Entries, joined_history}
-use Rattle.ps_delta.proofs.HistoryLemmas.{joined_history-append, joined_history-nil}
+use Rattle.ps_delta.specs.Deltas.{Entries}
 use Rattle.ps_lines.specs.declared.line_buffer.Line.{Line}
 use Rattle.ps_lines.specs.declared.line_buffer.Line.TheVariants as lines
 use Rattle.ps_lines.specs.Feeding.{Ends, EndsLine, Feeds, HasNoFeed, Holds, Reading, kept, kept_after, without_return}
 use Rattle.ps_lines.specs.Streams.{IsAfterLine, stream_of, with_last}
 use Rattle.ps_lines.specs.ReplicaLine.{TellsNone}
-use Rattle.ps_squash.specs.Squashed.{FirstFault, FirstSays, Say, SayAll, SayTogether, Says}
-use Rattle.ps_squash.specs.Inside.{NextSays, StandsAfter}
+use Rattle.ps_squash.specs.Squashed.{FirstFault, FirstSays, Say, SayAll, Says}
+use Rattle.ps_squash.specs.Selected.{SelectedTogether}
+use Rattle.ps_squash.specs.Inside.{NextSays, StandsAfter, Sum, sum_after, sum_before}
+use Rattle.ps_squash.specs.declared.selection.Selection.{Selection}
+use Rattle.ps_squash.proofs.SelectLemmas.{after_more, after_none, selected_state}
 use Rattle.ps_lines.proofs.FeedLemmas.{end_held, kept_cut, nothing_kept}
 use Rattle.ps_lines.proofs.ReadLemmas.{read-more, read-rest}
 use Rattle.ps_lines.proofs.StreamLemmas.{stream-push, stream-rest, with_last-filled}
@@ -82,16 +83,11 @@ number_of ls before after is next = capped (length ls) before after (2 ^ 64 - 1)
         → after ≡ min (n + 1) most
     capped n before after most is next = omega arith
 
-joined_more : (old new : State) (ds here : List Entries) → old ≡ joined_history ds
-    → new ≡ joined_state old (joined_history here) → new ≡ joined_history (ds ++ here)
-joined_more old new ds here is next =
-    next ∙ ap (λ s. joined_state s (joined_history here)) is ∙ sym (joined_history-append ds here)
-
 -- a line ended: it was joined, and is now among the lines
-abbrev Joined : Line → Reading → Option ℕ → State → ℕ → Option ℕ → State → Type 0
+abbrev Joined : Line → Reading → Option ℕ → Sum → ℕ → Option ℕ → Sum → Type 0
 Joined line after told old count tells new = (raw : List ℕ) → Holds line after raw
     → (here : List Entries) × NextSays count told (without_return raw) tells here
-    × (new ≡ joined_state old (joined_history here))
+    × (new ≡ sum_after old here)
 
 -- .. or it says nothing that a delta is, nor tells a replica as the first one
 abbrev Faulty : Line → Reading → ℕ → ℕ → Type 0
@@ -99,10 +95,10 @@ Faulty line after count number = (raw : List ℕ) → Holds line after raw
     → ((here : List Entries) → ¬ Says (without_return raw) here) × (count ≡ 0 → TellsNone (without_return raw))
     × (number ≡ min (count + 1) (2 ^ 64 - 1))
 
-module _ (read : List ℕ) (before after : Reading) (told : Option ℕ) (old : State) (count : ℕ) where
+module _ (asked : Selection) (read : List ℕ) (before after : Reading) (told : Option ℕ) (old : Sum) (count : ℕ) where
   -- no line ended
   pub part_stands : (bytes : List ℕ) → Feeds before after bytes lines.None
-      → StandsAfter read before.pending told old count → StandsAfter (read ++ bytes) after.pending told old count
+      → StandsAfter asked read before.pending told old count → StandsAfter asked (read ++ bytes) after.pending told old count
   part_stands bytes fed s = record {
     lines = s.lines;
     rest = s.rest ++ bytes;
@@ -130,7 +126,7 @@ module _ (read : List ℕ) (before after : Reading) (told : Option ℕ) (old : S
   )
 
   ended : (bytes : List ℕ) (line : Line) → line ≢ lines.None → Feeds before after bytes line
-      → (s : StandsAfter read before.pending told old count)
+      → (s : StandsAfter asked read before.pending told old count)
       → (part : List ℕ) × (bytes ≡ part ++ 10 ∷ []) × HasNoFeed part × Holds line after (s.rest ++ part)
       × (after.pending ≡ Some [])
   ended bytes lines.None some fed s = absurd (some refl)
@@ -140,10 +136,10 @@ module _ (read : List ℕ) (before after : Reading) (told : Option ℕ) (old : S
   ended bytes lines.TooLong some fed s =
       let whole = kept_whole bytes s.rest None s.held fed.0 in (whole.0, whole.1, whole.2, whole.3, fed.1)
 
-  pub line_stands : (tells : Option ℕ) (new : State) (counted : ℕ) (bytes : List ℕ) (line : Line) → line ≢ lines.None
+  pub line_stands : (tells : Option ℕ) (new : Sum) (counted : ℕ) (bytes : List ℕ) (line : Line) → line ≢ lines.None
       → Feeds before after bytes line → Joined line after told old count tells new
       → counted ≡ min (count + 1) (2 ^ 64 - 1)
-      → StandsAfter read before.pending told old count → StandsAfter (read ++ bytes) after.pending tells new counted
+      → StandsAfter asked read before.pending told old count → StandsAfter asked (read ++ bytes) after.pending tells new counted
   line_stands tells new counted bytes line some fed joined rises s =
       let e = ended bytes line some fed s in
       let j = joined (s.rest ++ e.0) e.3 in record {
@@ -160,13 +156,13 @@ module _ (read : List ℕ) (before after : Reading) (told : Option ℕ) (old : S
         held = e.4;
         deltas = s.deltas ++ j.0;
         said = say_next s.lines told tells s.deltas j.0 (s.rest ++ e.0) count s.said s.counted j.1;
-        joined = joined_more old new s.deltas j.0 s.joined j.2;
+        joined = after_more asked old new s.deltas j.0 s.joined j.2;
         counted = one_more s.lines (s.rest ++ e.0) count counted s.counted rises;
       }
 
   pub line_fails : (number : ℕ) (piece : List ℕ) (taken : ℕ) (line : Line) → line ≢ lines.None
       → Feeds before after (take taken piece) line → Faulty line after count number
-      → StandsAfter read before.pending told old count → FirstFault ⊥ (read ++ piece) number
+      → StandsAfter asked read before.pending told old count → FirstFault ⊥ (read ++ piece) number
   line_fails number piece taken line some fed faulty s =
       let e = ended (take taken piece) line some fed s in
       let f = faulty (s.rest ++ e.0) e.3 in
@@ -192,8 +188,8 @@ module _ (read : List ℕ) (before after : Reading) (told : Option ℕ) (old : S
       }
 
   -- the end, where nothing remains
-  pub none_remains : Ends before after lines.None → StandsAfter read before.pending told old count
-      → SayTogether read told old
+  pub none_remains : Ends before after lines.None → StandsAfter asked read before.pending told old count
+      → SelectedTogether asked read told old.state
   none_remains ends s =
       let none : s.rest ≡ [] = nothing_kept s.rest (sym s.held ∙ ends.0) in record {
         lines = s.lines;
@@ -201,12 +197,12 @@ module _ (read : List ℕ) (before after : Reading) (told : Option ℕ) (old : S
         split = s.split;
         deltas = s.deltas;
         said = subst (λ r. SayAll (with_last s.lines r) told s.deltas) (sym none) s.said;
-        joined = s.joined;
+        joined = selected_state asked old s.deltas s.joined;
       }
 
-  pub last_joins : (tells : Option ℕ) (new : State) (line : Line) → line ≢ lines.None → Ends before after line
-      → Joined line after told old count tells new → StandsAfter read before.pending told old count
-      → SayTogether read tells new
+  pub last_joins : (tells : Option ℕ) (new : Sum) (line : Line) → line ≢ lines.None → Ends before after line
+      → Joined line after told old count tells new → StandsAfter asked read before.pending told old count
+      → SelectedTogether asked read tells new.state
   last_joins tells new line some ends joined s =
       let held = end_held before after s.rest line some ends s.held in
       let j = joined s.rest held.0 in record {
@@ -216,11 +212,12 @@ module _ (read : List ℕ) (before after : Reading) (told : Option ℕ) (old : S
         deltas = s.deltas ++ j.0;
         said = subst (λ ls. SayAll ls tells (s.deltas ++ j.0)) (sym (with_last-filled s.lines s.rest held.1))
             (say_next s.lines told tells s.deltas j.0 s.rest count s.said s.counted j.1);
-        joined = joined_more old new s.deltas j.0 s.joined j.2;
+        joined = selected_state asked new (s.deltas ++ j.0)
+            (after_more asked old new s.deltas j.0 s.joined j.2);
       }
 
   pub last_fails : (number : ℕ) (line : Line) → line ≢ lines.None → Ends before after line
-      → Faulty line after count number → StandsAfter read before.pending told old count → FirstFault ⊤ read number
+      → Faulty line after count number → StandsAfter asked read before.pending told old count → FirstFault ⊤ read number
   last_fails number line some ends faulty s =
       let held = end_held before after s.rest line some ends s.held in
       let f = faulty s.rest held.0 in record {
@@ -263,9 +260,9 @@ fault_ended P Q read number known f = record {
     go (b ∷ bs) p = p
 
 -- nothing is read yet
-pub none_stand : (pending : Option (List ℕ)) (state : State) → pending ≡ Some [] → state ≡ empty_state
-    → StandsAfter [] pending None state 0
-none_stand pending state is empty = record {
+pub none_stand : (asked : Selection) (pending : Option (List ℕ)) (sum : Sum) → pending ≡ Some []
+    → sum ≡ sum_before asked → StandsAfter asked [] pending None sum 0
+none_stand asked pending sum is empty = record {
   lines = [];
   rest = [];
   split = record {
@@ -276,18 +273,18 @@ none_stand pending state is empty = record {
   held = is;
   deltas = [];
   said = (refl, refl);
-  joined = empty ∙ sym joined_history-nil;
+  joined = empty ∙ sym (after_none (sum_before asked));
   counted = refl;
 }
 
 -- one turn more, as the code takes it, and all that is left
-pub stands_more : (read bytes : List ℕ) (start taken : ℕ) (pending : Option (List ℕ)) (told : Option ℕ) (state : State)
-    (count : ℕ)
-    → StandsAfter ((read ++ take start bytes) ++ take taken (take (length bytes - start) (drop start bytes))) pending
-    told state count
-    → StandsAfter (read ++ take (start + taken) bytes) pending told state count
-stands_more read bytes start taken pending told state count s =
-    subst (λ r. StandsAfter r pending told state count) (read-more read bytes start taken) s
+pub stands_more : (asked : Selection) (read bytes : List ℕ) (start taken : ℕ) (pending : Option (List ℕ))
+    (told : Option ℕ) (sum : Sum) (count : ℕ)
+    → StandsAfter asked ((read ++ take start bytes) ++ take taken (take (length bytes - start) (drop start bytes)))
+    pending told sum count
+    → StandsAfter asked (read ++ take (start + taken) bytes) pending told sum count
+stands_more asked read bytes start taken pending told sum count s =
+    subst (λ r. StandsAfter asked r pending told sum count) (read-more read bytes start taken) s
 
 pub fault_rest : (read bytes : List ℕ) (start number : ℕ)
     → FirstFault ⊥ ((read ++ take start bytes) ++ take (length bytes - start) (drop start bytes)) number

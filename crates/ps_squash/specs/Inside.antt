@@ -1,9 +1,10 @@
 -- Definitions of the private functions; no contract of a public one cites them.
 use Rattle.std.specs.Prelude.{◌≡◌, ◌≢◌, ◌⊎◌, ◌+◌, ◌-◌, ◌^◌, ◌<◌, ℕ, List, [], ◌∷◌, ◌++◌, length, min}
-use Rattle.std.specs.Prelude.{Contains, Option, Some, None, ⊤}
+use Rattle.std.specs.Prelude.{Bool, Contains, Option, Some, None, nat_lt, true, ⊤}
+use Rattle.std.specs.Option.{option_map_or}
 use Rattle.std.specs.List.{All}
 use Rattle.ps_delta.specs.declared.cell_state.CellState.{CellState}
-use Rattle.ps_delta.specs.State.{State, empty_cell}
+use Rattle.ps_delta.specs.State.{State, empty_cell, empty_state, joined_state}
 use Rattle.ps_delta.specs.Deltas.{AreEntries, Entries, IsDelta, cells_of, joined_history}
 use Rattle.ps_delta.specs.Order.{Rising}
 use Rattle.ps_wire.specs.Fits.{FitsLine}
@@ -16,7 +17,9 @@ use Rattle.ps_lines.specs.declared.kept_line.KeptLine.TheVariants as kept_lines
 use Rattle.ps_wire.specs.Line.{IsLine, delta_text}
 use Rattle.ps_squash.specs.Squashed.{AreFull, Divide, FirstFault, FirstSays, SayAll, Says, cells_in, push_lines}
 use Rattle.ps_squash.specs.Squashed.{told_line}
+use Rattle.ps_squash.specs.Selected.{selected, still_after}
 use Rattle.ps_squash.specs.declared.fault.SquashFault.{SquashFault}
+use Rattle.ps_squash.specs.declared.selection.Selection.{Selection}
 use Rattle.ps_squash.specs.declared.fault.SquashFault.TheVariants as faults
 
 -- what a first line is read as: nothing where it is empty; else the replica that it tells, or the delta that it says
@@ -30,28 +33,51 @@ abbrev pub NextSays : ℕ → Option ℕ → List ℕ → Option ℕ → List En
 NextSays count before line after deltas =
     ((count ≡ 0) × FirstSays line after deltas) ⊎ ((0 < count) × (after ≡ before) × Says line deltas)
 
--- the complete lines read were joined, and what remains is held
-pub record StandsAfter (read : List ℕ) (pending : Option (List ℕ)) (told : Option ℕ) (state : State) (count : ℕ)
-    : Type 0 where
+-- whether one delta more is taken
+abbrev pub is_taken : Selection → Bool
+is_taken selection = option_map_or (λ n. nat_lt 0 n) selection.until true
+
+-- what was joined so far, and what is still taken
+pub record Sum : Type 0 where
+  pub state : State
+  pub still : Selection
+
+abbrev pub sum_of : State → Selection → Sum
+sum_of state still = record { state = state; still = still }
+
+-- before the first delta
+abbrev pub sum_before : Selection → Sum
+sum_before selection = sum_of empty_state selection
+
+-- after these deltas more
+abbrev pub sum_after : Sum → List Entries → Sum
+sum_after sum deltas =
+    sum_of (joined_state sum.state (joined_history (selected sum.still deltas)))
+    (still_after sum.still (length deltas))
+
+-- what is taken of the complete lines read was joined, and what remains is held
+pub record StandsAfter (asked : Selection) (read : List ℕ) (pending : Option (List ℕ)) (told : Option ℕ) (sum : Sum)
+    (count : ℕ) : Type 0 where
   pub lines : List (List ℕ)
   pub rest : List ℕ
   pub split : Splits read lines rest
   pub held : pending ≡ kept rest
   pub deltas : List Entries
   pub said : SayAll lines told deltas
-  pub joined : state ≡ joined_history deltas
+  pub joined : sum ≡ sum_after (sum_before asked) deltas
   pub counted : count ≡ min (length lines) (2 ^ 64 - 1)
 
 -- whatever came before, these bytes were taken in
-abbrev pub GoesOn : List ℕ → Option (List ℕ) → Option ℕ → State → ℕ → Option (List ℕ) → Option ℕ → State → ℕ
-    → Type 0
-GoesOn bytes held first before count pending told state number =
-    (read : List ℕ) → StandsAfter read held first before count → StandsAfter (read ++ bytes) pending told state number
+abbrev pub GoesOn : List ℕ → Option (List ℕ) → Option ℕ → Sum → ℕ → Option (List ℕ) → Option ℕ → Sum → ℕ → Type 0
+GoesOn bytes held first before count pending told sum number =
+    (asked : Selection) → (read : List ℕ) → StandsAfter asked read held first before count
+    → StandsAfter asked (read ++ bytes) pending told sum number
 
 -- .. or one of the lines that ended among them is the first that says no delta
-abbrev pub Fails : Type 0 → List ℕ → Option (List ℕ) → Option ℕ → State → ℕ → ℕ → Type 0
+abbrev pub Fails : Type 0 → List ℕ → Option (List ℕ) → Option ℕ → Sum → ℕ → ℕ → Type 0
 Fails ended bytes held told before count number =
-    (read : List ℕ) → StandsAfter read held told before count → FirstFault ended (read ++ bytes) number
+    (asked : Selection) → (read : List ℕ) → StandsAfter asked read held told before count
+    → FirstFault ended (read ++ bytes) number
 
 -- how long the text of a cell is
 abbrev pub cell_size : ℕ × CellState → ℕ

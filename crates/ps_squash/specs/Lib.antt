@@ -1,2 +1,3 @@
 pub mod Inside
+pub mod Selected
 pub mod Squashed

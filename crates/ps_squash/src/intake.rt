@@ -3,23 +3,27 @@ ghost use Rattle.std.specs.Prelude.{◌≡◌, ◌⊎◌, ◌+◌, ◌-◌, ◌^
 ghost use Rattle.std.specs.Prelude.{None, Option, length, min, take};
 ghost use Rattle.std.specs.Io.KnownBytes.{Consumes, IsAtEnd};
 ghost use Rattle.ps_grid.specs.declared.refusal.Refusal.TheVariants as refusals;
-ghost use Rattle.ps_delta.specs.Deltas.{Entries, joined_history};
-ghost use Rattle.ps_delta.specs.State.{joined_state, state_at};
+ghost use Rattle.ps_delta.specs.Deltas.{Entries};
+ghost use Rattle.ps_delta.specs.State.{state_at};
 ghost use Rattle.ps_lines.specs.Feeding.{Holds, without_return};
 ghost use Rattle.ps_lines.specs.ReplicaLine.{TellsNone};
-ghost use Rattle.ps_squash.specs.Squashed.{FirstFault, FirstSays, SayTogether, Says};
+ghost use Rattle.ps_squash.specs.Squashed.{FirstFault, FirstSays, Says};
+ghost use Rattle.ps_squash.specs.Selected.{SelectedTogether};
 ghost use Rattle.ps_squash.specs.Inside.{Fails, GoesOn, IsOfIntake, IsOfLines, IsRead, NextSays, StandsAfter};
+ghost use Rattle.ps_squash.specs.Inside.{sum_after, sum_of};
+ghost use Rattle.ps_squash.specs.declared.selection.Selection.{Selection};
 ghost use Rattle.ps_squash.specs.declared.fault.SquashFault.TheVariants.{Line as FaultyLine};
 
 use crate::fault::SquashFault;
-use ps_delta::Grid;
+use crate::selection::Selection;
+use crate::taken::Taken;
 use ps_device::{PIECE_BYTES, Source};
 use ps_grid::Refusal;
 use ps_lines::{KeptLine, Line, LineBuffer, read_kept_line};
 use ps_wire::Decoder;
 use std::alloc::Global;
 
-/// The intake of a source: the line that is being read, and the join of all lines before it.
+/// The intake of a source: the line that is being read, and the join of what is taken of all lines before it.
 #[derive(Drop)]
 struct Intake {
     /// The allocator.
@@ -30,8 +34,8 @@ struct Intake {
     session: LineBuffer,
     /// The replica that the first line tells.
     told: Option<u8>,
-    /// The join of the lines so far.
-    state: Grid,
+    /// The join of what is taken of the lines so far.
+    taken: Taken,
     /// The number of lines that have ended; 2^64 - 1 stands for that number and more.
     ended: u64,
 }
@@ -54,17 +58,18 @@ fn read_line(alloc: Global, decoder: &mut Decoder, line: &[u8]) -> Result<Option
     }
 }
 
-/// Joins what a line says into the state, or returns the replica that it tells.
+/// Joins what is taken of what a line says, or returns the replica that it tells.
 ///
 /// Fails as `Delta` if the line isn't empty, tells no replica and is no delta's, and as `Memory`.
 fn join_line(
     alloc: Global,
     decoder: &mut Decoder,
     line: &[u8],
-    state: &mut Grid,
+    taken: &mut Taken,
 ) -> Result<Option<u8>, Refusal>
     ensures joined { IfOk result (λ told. (deltas : List Entries) × FirstSays line.now told deltas
-        × (state_at state.new ≡ joined_state (state_at state.old) (joined_history deltas))) }
+        × (sum_of (state_at taken.new.state) taken.new.still
+        ≡ sum_after (sum_of (state_at taken.old.state) taken.old.still) deltas)) }
     ensures faulty { result ≡ Err refusals.Delta → (deltas : List Entries) → ¬ Says line.now deltas }
     ensures untold { result ≡ Err refusals.Delta → TellsNone line.now }
     ensures refused { IfErr result (λ e. (e ≡ refusals.Delta) ⊎ (e ≡ refusals.Memory)) }
@@ -73,7 +78,7 @@ fn join_line(
         None => Ok(None),
         Some(KeptLine::Replica(replica)) => Ok(Some(replica)),
         Some(KeptLine::Push(delta)) => {
-            state.join(alloc, &delta)?;
+            taken.add(alloc, &delta)?;
             Ok(None)
         }
     }
@@ -84,7 +89,8 @@ impl Intake {
     fn join(&mut self) -> Result<(), Refusal>
         ensures joined { OnOk result ((deltas : List Entries)
             × NextSays self.old.ended self.old.told (without_return self.old.session.line) self.new.told deltas
-            × (state_at self.new.state ≡ joined_state (state_at self.old.state) (joined_history deltas))) }
+            × (sum_of (state_at self.new.taken.state) self.new.taken.still
+            ≡ sum_after (sum_of (state_at self.old.taken.state) self.old.taken.still) deltas)) }
         ensures faulty { result ≡ Err refusals.Delta
             → (deltas : List Entries) → ¬ Says (without_return self.old.session.line) deltas }
         ensures untold { result ≡ Err refusals.Delta
@@ -97,7 +103,7 @@ impl Intake {
             self.alloc,
             &mut self.decoder,
             self.session.line(),
-            &mut self.state,
+            &mut self.taken,
         )?;
         if self.ended == 0 {
             self.told = told;
@@ -112,7 +118,8 @@ impl Intake {
         ensures joined { OnOk result ((raw : List ℕ) → Holds line self.old.session raw
             → (deltas : List Entries)
             × NextSays self.old.ended self.old.told (without_return raw) self.new.told deltas
-            × (state_at self.new.state ≡ joined_state (state_at self.old.state) (joined_history deltas))) }
+            × (sum_of (state_at self.new.taken.state) self.new.taken.still
+            ≡ sum_after (sum_of (state_at self.old.taken.state) self.old.taken.still) deltas)) }
         ensures faulty { IfErr result (λ f. (number : ℕ) → f ≡ FaultyLine number
             → (raw : List ℕ) → Holds line self.old.session raw
             → ((deltas : List Entries) → ¬ Says (without_return raw) deltas)
@@ -142,10 +149,13 @@ impl Intake {
         requires some { 0 < length piece.now }
         ensures within { IfOk result (λ taken. (0 < taken) × (taken ≤ length piece.now)) }
         ensures stands { IfOk result (λ taken. GoesOn (take taken piece.now)
-            self.old.session.pending self.old.told (state_at self.old.state) self.old.ended
-            self.new.session.pending self.new.told (state_at self.new.state) self.new.ended) }
+            self.old.session.pending self.old.told
+            (sum_of (state_at self.old.taken.state) self.old.taken.still) self.old.ended
+            self.new.session.pending self.new.told
+            (sum_of (state_at self.new.taken.state) self.new.taken.still) self.new.ended) }
         ensures faulty { IfErr result (λ f. (number : ℕ) → f ≡ FaultyLine number → Fails ⊥ piece.now
-            self.old.session.pending self.old.told (state_at self.old.state) self.old.ended number) }
+            self.old.session.pending self.old.told (sum_of (state_at self.old.taken.state) self.old.taken.still)
+            self.old.ended number) }
         ensures refused { IfErr result IsOfLines }
     {
         let fed = self.session.feed(piece);
@@ -161,10 +171,13 @@ impl Intake {
     /// Takes in a whole piece, and each line that it ends.
     fn take_in(&mut self, piece: &[u8]) -> Result<(), SquashFault>
         ensures stands { OnOk result (GoesOn piece.now
-            self.old.session.pending self.old.told (state_at self.old.state) self.old.ended
-            self.new.session.pending self.new.told (state_at self.new.state) self.new.ended) }
+            self.old.session.pending self.old.told
+            (sum_of (state_at self.old.taken.state) self.old.taken.still) self.old.ended
+            self.new.session.pending self.new.told
+            (sum_of (state_at self.new.taken.state) self.new.taken.still) self.new.ended) }
         ensures faulty { IfErr result (λ f. (number : ℕ) → f ≡ FaultyLine number → Fails ⊥ piece.now
-            self.old.session.pending self.old.told (state_at self.old.state) self.old.ended number) }
+            self.old.session.pending self.old.told (sum_of (state_at self.old.taken.state) self.old.taken.still)
+            self.old.ended number) }
         ensures refused { IfErr result IsOfLines }
     {
         let mut start = 0;
@@ -179,13 +192,13 @@ impl Intake {
 
     /// Takes in what remains at the end of the input, if it is a line.
     fn finish(&mut self) -> Result<(), SquashFault>
-        ensures together { OnOk result ((read : List ℕ)
-            → StandsAfter read self.old.session.pending self.old.told (state_at self.old.state) self.old.ended
-            → SayTogether read self.new.told (state_at self.new.state)) }
+        ensures together { OnOk result ((asked : Selection) → (read : List ℕ)
+            → StandsAfter asked read self.old.session.pending self.old.told
+            (sum_of (state_at self.old.taken.state) self.old.taken.still) self.old.ended → SelectedTogether asked read self.new.told (state_at self.new.taken.state)) }
         ensures faulty { IfErr result (λ f. (number : ℕ) → f ≡ FaultyLine number
-            → (read : List ℕ)
-            → StandsAfter read self.old.session.pending self.old.told (state_at self.old.state) self.old.ended
-            → FirstFault ⊤ read number) }
+            → (asked : Selection) → (read : List ℕ)
+            → StandsAfter asked read self.old.session.pending self.old.told
+            (sum_of (state_at self.old.taken.state) self.old.taken.still) self.old.ended → FirstFault ⊤ read number) }
         ensures refused { IfErr result IsOfLines }
     {
         match self.session.end() {
@@ -202,11 +215,16 @@ impl Intake {
 fn read_on<S: Source>(intake: &mut Intake, source: &mut S) -> Result<(), SquashFault>
     ensures read { OnOk result ((read : List ℕ)
         × Consumes (S.remaining source.old) (S.remaining source.new) read × IsAtEnd (S.remaining source.new)
-        × (StandsAfter [] intake.old.session.pending intake.old.told (state_at intake.old.state) intake.old.ended
-        → StandsAfter read intake.new.session.pending intake.new.told (state_at intake.new.state) intake.new.ended)) }
+        × ((asked : Selection)
+        → StandsAfter asked [] intake.old.session.pending intake.old.told
+        (sum_of (state_at intake.old.taken.state) intake.old.taken.still) intake.old.ended
+        → StandsAfter asked read intake.new.session.pending intake.new.told
+        (sum_of (state_at intake.new.taken.state) intake.new.taken.still) intake.new.ended)) }
     ensures faulty { IfErr result (λ f. (number : ℕ) → f ≡ FaultyLine number
         → (read : List ℕ) × Consumes (S.remaining source.old) (S.remaining source.new) read
-        × (StandsAfter [] intake.old.session.pending intake.old.told (state_at intake.old.state) intake.old.ended
+        × ((asked : Selection)
+        → StandsAfter asked [] intake.old.session.pending intake.old.told
+        (sum_of (state_at intake.old.taken.state) intake.old.taken.still) intake.old.ended
         → FirstFault ⊥ read number)) }
     ensures calm { OnOk result (S.failures source.new ≡ S.failures source.old) }
     ensures failed { result ≡ Err SquashFault.Source → S.failures source.old < S.failures source.new }
@@ -228,7 +246,8 @@ fn read_on<S: Source>(intake: &mut Intake, source: &mut S) -> Result<(), SquashF
     }
 }
 
-/// Reads a source to its end, and returns the replica that its first line tells and the join of all its lines.
+/// Reads a source to its end, and returns the replica that its first line tells and the join of what is taken of its
+/// lines.
 ///
 /// Fails as `Line` at the first line that isn't empty and is no delta's, unless it is the first of all and tells a
 /// replica. Fails as `Source` if the source fails, and as `Memory`.
@@ -237,10 +256,11 @@ fn read_on<S: Source>(intake: &mut Intake, source: &mut S) -> Result<(), SquashF
 pub(crate) fn taken_in<S: Source>(
     alloc: Global,
     source: &mut S,
-) -> Result<(Option<u8>, Grid), SquashFault>
+    selection: Selection,
+) -> Result<(Option<u8>, Taken), SquashFault>
     ensures together { IfOk result (λ taken. (read : List ℕ)
         × Consumes (S.remaining source.old) (S.remaining source.new) read × IsAtEnd (S.remaining source.new)
-        × SayTogether read taken.0 (state_at taken.1)) }
+        × SelectedTogether selection read taken.0 (state_at taken.1.state)) }
     ensures faulty { IfErr result (λ f. (number : ℕ) → f ≡ FaultyLine number
         → (read : List ℕ) × Consumes (S.remaining source.old) (S.remaining source.new) read
         × FirstFault (IsAtEnd (S.remaining source.new)) read number) }
@@ -248,26 +268,26 @@ pub(crate) fn taken_in<S: Source>(
     ensures failed { result ≡ Err SquashFault.Source → S.failures source.old < S.failures source.new }
     ensures refused { IfErr result IsOfIntake }
 {
-    let mut intake = begin(alloc)?;
+    let mut intake = begin(alloc, selection)?;
     match read_on(&mut intake, source) {
         Ok(()) => {}
         Err(fault) => return Err(fault),
     }
     match intake.finish() {
-        Ok(()) => Ok((intake.told, intake.state)),
+        Ok(()) => Ok((intake.told, intake.taken)),
         Err(fault) => Err(fault),
     }
 }
 
 /// Creates an intake that has taken in no line.
-fn begin(alloc: Global) -> Result<Intake, SquashFault>
-    ensures stands { IfOk result (λ intake.
-        StandsAfter [] intake.session.pending intake.told (state_at intake.state) intake.ended) }
+fn begin(alloc: Global, selection: Selection) -> Result<Intake, SquashFault>
+    ensures stands { IfOk result (λ intake. StandsAfter selection [] intake.session.pending intake.told
+        (sum_of (state_at intake.taken.state) intake.taken.still) intake.ended) }
     ensures memory { IfErr result (λ f. f ≡ SquashFault.Memory) }
 {
     let session = LineBuffer::new(alloc)?;
-    let state = match Grid::new(alloc) {
-        Ok(state) => state,
+    let taken = match Taken::new(alloc, selection) {
+        Ok(taken) => taken,
         Err(Refusal::Memory) => return Err(SquashFault::Memory),
         Err(_) => unreachable!(),
     };
@@ -276,7 +296,7 @@ fn begin(alloc: Global) -> Result<Intake, SquashFault>
         decoder: Decoder::new(alloc),
         session,
         told: None,
-        state,
+        taken,
         ended: 0,
     })
 }

@@ -16,6 +16,9 @@
 //! - they divide the cells in order, and each has a line;
 //! - no line has room for the first cell of the next.
 //!
+//! [`squash_in_part`] does so with the first lines alone, or without the parts of one replica (`IsSquashedInPart`, in
+//! `specs/Selected.antt`).
+//!
 //! A [`SquashFault`] says which line is no delta's, and then nothing was written.
 //!
 //! For example, `[["A1",[1,1,"5"],[],[]]]`, `push [["A1",[2,1,"6"],[],[]]]` and `push [["B1",[1,1,"7"],[],[]]]` become
@@ -28,7 +31,11 @@
 mod fault;
 mod intake;
 mod lines;
+mod selection;
+mod taken;
 mod whole;
+mod without;
 
 pub use fault::SquashFault;
-pub use whole::squash;
+pub use selection::{LeftOut, Selection};
+pub use whole::{squash, squash_in_part};

@@ -5,12 +5,14 @@ ghost use Rattle.ps_grid.specs.declared.refusal.Refusal.TheVariants as refusals;
 ghost use Rattle.ps_delta.specs.State.{state_at};
 ghost use Rattle.ps_wire.specs.Fits.{FitsLine};
 ghost use Rattle.ps_squash.specs.Squashed.{FirstFault, HasWideCell, IsSquashed, told_line};
+ghost use Rattle.ps_squash.specs.Selected.{HasWideCellInPart, IsSquashedInPart};
 ghost use Rattle.ps_squash.specs.Inside.{IsText};
 ghost use Rattle.ps_squash.specs.declared.fault.SquashFault.TheVariants.{Line as FaultyLine};
 
 use crate::fault::SquashFault;
 use crate::intake::taken_in;
 use crate::lines::put_lines;
+use crate::selection::{LeftOut, Selection};
 use ps_delta::Grid;
 use ps_device::{Sink, Source, hand_on, put_all};
 use ps_grid::Refusal;
@@ -58,8 +60,49 @@ pub fn squash<S: Source, K: Sink>(
         × IsSquashed read text × Appends (K.contents sink.old) (K.contents sink.new) (take count text) }
     ensures unwritten { IfErr result (λ f. f ≢ SquashFault.Sink → sink.new ≡ sink.old) }
 {
-    let text = match squashed(alloc, source) {
-        Ok(text) => text,
+    match squash_in_part(alloc, source, sink, Selection::all()) {
+        Ok(_) => Ok(()),
+        Err(fault) => Err(fault),
+    }
+}
+
+/// Squashes a part of the lines of a source, as [`squash`] does all of them, and returns what was left out.
+///
+/// It takes the deltas of the first lines, as many as `selection.until` says. It takes them without what the replica
+/// `selection.without` assigned, counted and chose. The lines after them have to be deltas, too.
+///
+/// # Errors
+///
+/// Those of [`squash`].
+///
+/// Cost: that of [`squash`]; with `selection.without` also a copy of each delta, and one byte for each cell of the grid.
+pub fn squash_in_part<S: Source, K: Sink>(
+    alloc: Global,
+    source: &mut S,
+    sink: &mut K,
+    selection: Selection,
+) -> Result<LeftOut, SquashFault>
+    ensures squashed { OnOk result ((read : List ℕ) × (text : List ℕ)
+        × Consumes (S.remaining source.old) (S.remaining source.new) read × IsAtEnd (S.remaining source.new)
+        × IsSquashedInPart selection read text × Appends (K.contents sink.old) (K.contents sink.new) text) }
+    ensures flushed { OnOk result (K.waiting sink.new ≡ []) }
+    ensures calm { OnOk result ((S.failures source.new ≡ S.failures source.old)
+        × (K.failures sink.new ≡ K.failures sink.old)) }
+    ensures faulty { (number : ℕ) → result ≡ Err (FaultyLine number)
+        → (read : List ℕ) × Consumes (S.remaining source.old) (S.remaining source.new) read
+        × FirstFault (IsAtEnd (S.remaining source.new)) read number }
+    ensures wide { result ≡ Err SquashFault.TooLong
+        → (read : List ℕ) × Consumes (S.remaining source.old) (S.remaining source.new) read
+        × IsAtEnd (S.remaining source.new) × HasWideCellInPart selection read }
+    ensures source { result ≡ Err SquashFault.Source → S.failures source.old < S.failures source.new }
+    ensures sink { result ≡ Err SquashFault.Sink → (K.failures sink.old < K.failures sink.new)
+        × (read : List ℕ) × (text : List ℕ) × (count : ℕ)
+        × Consumes (S.remaining source.old) (S.remaining source.new) read × IsAtEnd (S.remaining source.new)
+        × IsSquashedInPart selection read text × Appends (K.contents sink.old) (K.contents sink.new) (take count text) }
+    ensures unwritten { IfErr result (λ f. f ≢ SquashFault.Sink → sink.new ≡ sink.old) }
+{
+    let (text, left_out) = match squashed(alloc, source, selection) {
+        Ok(squashed) => squashed,
         Err(fault) => return Err(fault),
     };
     match put_all(sink, &text) {
@@ -67,32 +110,36 @@ pub fn squash<S: Source, K: Sink>(
         Err(_) => return Err(SquashFault::Sink),
     }
     match hand_on(sink) {
-        Ok(()) => Ok(()),
+        Ok(()) => Ok(left_out),
         Err(_) => Err(SquashFault::Sink),
     }
 }
 
-/// Returns the lines that say the same as those of the source, after the line of their replica.
-fn squashed<S: Source>(alloc: Global, source: &mut S) -> Result<Vec<u8>, SquashFault>
-    ensures squashed { IfOk result (λ text. (read : List ℕ)
+/// Returns the lines that say what is taken of those of the source, after the line of their replica; and what isn't.
+fn squashed<S: Source>(
+    alloc: Global,
+    source: &mut S,
+    selection: Selection,
+) -> Result<(Vec<u8>, LeftOut), SquashFault>
+    ensures squashed { IfOk result (λ r. (read : List ℕ)
         × Consumes (S.remaining source.old) (S.remaining source.new) read × IsAtEnd (S.remaining source.new)
-        × IsSquashed read text.items) }
+        × IsSquashedInPart selection read r.0.items) }
     ensures faulty { (number : ℕ) → result ≡ Err (FaultyLine number)
         → (read : List ℕ) × Consumes (S.remaining source.old) (S.remaining source.new) read
         × FirstFault (IsAtEnd (S.remaining source.new)) read number }
     ensures wide { result ≡ Err SquashFault.TooLong
         → (read : List ℕ) × Consumes (S.remaining source.old) (S.remaining source.new) read
-        × IsAtEnd (S.remaining source.new) × HasWideCell read }
+        × IsAtEnd (S.remaining source.new) × HasWideCellInPart selection read }
     ensures calm { IfOk result (λ _. S.failures source.new ≡ S.failures source.old) }
     ensures failed { result ≡ Err SquashFault.Source → S.failures source.old < S.failures source.new }
     ensures sink { result ≢ Err SquashFault.Sink }
 {
-    let (told, state) = match taken_in(alloc, source) {
+    let (told, taken) = match taken_in(alloc, source, selection) {
         Ok(taken) => taken,
         Err(fault) => return Err(fault),
     };
-    match text_of(alloc, told, &state) {
-        Ok(text) => Ok(text),
+    match text_of(alloc, told, &taken.state) {
+        Ok(text) => Ok((text, taken.left_out())),
         Err(Refusal::TooLong) => Err(SquashFault::TooLong),
         Err(Refusal::Memory) => Err(SquashFault::Memory),
         Err(_) => unreachable!(),

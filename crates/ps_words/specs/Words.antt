@@ -9,7 +9,8 @@ use Rattle.clap.specs.Simple.{on_top}
 use Rattle.clap.specs.declared.builder.action.ArgAction.TheVariants.{Set, SetTrue}
 use Rattle.clap.specs.declared.builder.value_parser.ValueParser.TheVariants as vp
 use Rattle.ps_grid.specs.declared.parties.TheConstants.{REPLICAS, SEATS, WORKERS}
-use Rattle.ps_words.specs.declared.options.TheConstants.{LONGEST_IDLE, LONGEST_PAUSE, LONGEST_WAIT, MOST_SESSIONS}
+use Rattle.ps_words.specs.declared.options.TheConstants.{LONGEST_IDLE, LONGEST_PAUSE, LONGEST_WAIT}
+use Rattle.ps_words.specs.declared.options.TheConstants.{MOST_CHANGES, MOST_SESSIONS}
 use Rattle.ps_words.specs.declared.arguments.TheConstants.{LAST_PORT}
 use Rattle.ps_words.specs.declared.options.Options.{Options}
 use Rattle.ps_words.specs.declared.options.Options.TheVariants.{Follow, Join, Run, Serve, Squash, Sync, Table, Talk}
@@ -73,8 +74,9 @@ sync_app = with_rule (with_rule (with_rule (new_app (codes "sync")) (needed_opti
     (needed_option (codes "to") LAST_PORT)) (flag_option (codes "explain"))
 
 abbrev pub join_app : App
-join_app = with_rule (with_rule (with_rule (with_rule (new_app (codes "join")) (needed_option (codes "from") LAST_PORT))
-    (needed_option (codes "to") LAST_PORT)) (flag_option (codes "once"))) (flag_option (codes "explain"))
+join_app = with_rule (with_rule (with_rule (with_rule (with_rule (new_app (codes "join"))
+    (needed_option (codes "from") LAST_PORT)) (needed_option (codes "to") LAST_PORT))
+    (flag_option (codes "once"))) (flag_option (codes "check"))) (flag_option (codes "explain"))
 
 abbrev pub follow_app : App
 follow_app = with_rule (with_rule (with_rule (with_rule (new_app (codes "follow"))
@@ -87,7 +89,8 @@ talk_app = with_rule (with_rule (new_app (codes "talk")) (needed_option (codes "
     (flag_option (codes "explain"))
 
 abbrev pub squash_app : App
-squash_app = with_rule (new_app (codes "squash")) (text_option (codes "keep"))
+squash_app = with_rule (with_rule (with_rule (new_app (codes "squash")) (text_option (codes "keep")))
+    (ranged_option (codes "until") 1 MOST_CHANGES)) (ranged_option (codes "without") 1 REPLICAS)
 
 -- the program has one of the commands, and a version
 abbrev pub sheet_app : App
@@ -145,11 +148,13 @@ GivesNumbers rows (Serve o) = GivesNumber rows (codes "port") o.port × GivesCou
 GivesNumbers rows (Sync o) = GivesNumber rows (codes "from") o.from × GivesNumber rows (codes "to") o.to
     × GivesFlag rows (codes "explain") o.explain
 GivesNumbers rows (Join o) = GivesNumber rows (codes "from") o.from × GivesNumber rows (codes "to") o.to
-    × GivesFlag rows (codes "once") o.once × GivesFlag rows (codes "explain") o.explain
+    × GivesFlag rows (codes "once") o.once × GivesFlag rows (codes "check") o.check
+    × GivesFlag rows (codes "explain") o.explain
 GivesNumbers rows (Follow o) = GivesNumber rows (codes "from") o.from × GivesFlag rows (codes "until-now") o.until_now
     × GivesNumber rows (codes "every") o.every × GivesFlag rows (codes "explain") o.explain
 GivesNumbers rows (Talk o) = GivesNumber rows (codes "to") o.to × GivesFlag rows (codes "explain") o.explain
-GivesNumbers rows (Squash o) = GivesText rows (codes "keep") o.keep
+GivesNumbers rows (Squash o) = GivesText rows (codes "keep") o.keep × GivesCount rows (codes "until") o.until
+    × GivesCount rows (codes "without") o.without
 
 -- the matches are those of the command with its numbers
 abbrev pub GivesOptions : Option (Text × List Row) → Options → Type 0

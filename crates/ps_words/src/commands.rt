@@ -19,15 +19,16 @@ use crate::arguments::{
     usual_option, with_option, with_sheet_options,
 };
 use crate::help::{
-    ENTRIES_HELP, EVERY_HELP, EXPLAIN_HELP, FOLLOW_HELP, FOLLOWED_HELP, FROM_HELP, IDLE_HELP,
-    JOIN_HELP, JOINED_FIRST_HELP, JOINED_SECOND_HELP, KEEP_HELP, ONCE_HELP, PORT_EXPLAIN_HELP,
-    PORT_HELP, RUN_HELP, SEATS_HELP, SERVE_HELP, SESSIONS_HELP, SHEET_HELP, SQUASH_HELP,
-    SQUASHED_HELP, STRICT_HELP, SYNC_HELP, TABLE_HELP, TALK_EXPLAIN_HELP, TALK_HELP, TALKED_HELP,
-    TITLE_HELP, TO_HELP, UNTIL_NOW_HELP, WAIT_HELP, WORKERS_HELP,
+    CHECK_HELP, ENTRIES_HELP, EVERY_HELP, EXPLAIN_HELP, FOLLOW_HELP, FOLLOWED_HELP, FROM_HELP,
+    IDLE_HELP, JOIN_HELP, JOINED_FIRST_HELP, JOINED_SECOND_HELP, KEEP_HELP, ONCE_HELP,
+    PORT_EXPLAIN_HELP, PORT_HELP, RUN_HELP, SEATS_HELP, SERVE_HELP, SESSIONS_HELP, SHEET_HELP,
+    SQUASH_HELP, SQUASHED_HELP, STRICT_HELP, SYNC_HELP, TABLE_HELP, TALK_EXPLAIN_HELP, TALK_HELP,
+    TALKED_HELP, TITLE_HELP, TO_HELP, UNTIL_HELP, UNTIL_NOW_HELP, WAIT_HELP, WITHOUT_HELP,
+    WORKERS_HELP,
 };
-use crate::options::{LONGEST_IDLE, LONGEST_PAUSE, LONGEST_WAIT, MOST_SESSIONS};
+use crate::options::{LONGEST_IDLE, LONGEST_PAUSE, LONGEST_WAIT, MOST_CHANGES, MOST_SESSIONS};
 use clap::Command;
-use ps_grid::{SEATS, WORKERS};
+use ps_grid::{REPLICAS, SEATS, WORKERS};
 use std::alloc::{AllocError, Global};
 
 /// What `--version` prints after the program's name.
@@ -101,7 +102,7 @@ fn sync_command<'a>(alloc: Global) -> Result<Command<'a>, AllocError>
 }
 
 /// The command `join`.
-fn join_command<'a>(alloc: Global) -> Result<Command<'a>, AllocError>
+pub(crate) fn join_command<'a>(alloc: Global) -> Result<Command<'a>, AllocError>
     ensures app { IfOk result (λ command. app_of command ≡ join_app) }
     ensures local { IfOk result (λ command. (fields_of command).has_globals ≡ false) }
 {
@@ -112,6 +113,8 @@ fn join_command<'a>(alloc: Global) -> Result<Command<'a>, AllocError>
     let command = with_option(command, to)?;
     let once = flag_option(alloc, "once", ONCE_HELP);
     let command = with_option(command, once)?;
+    let check = flag_option(alloc, "check", CHECK_HELP);
+    let command = with_option(command, check)?;
     let explain = flag_option(alloc, "explain", PORT_EXPLAIN_HELP);
     with_option(command, explain)
 }
@@ -152,13 +155,17 @@ fn talk_command<'a>(alloc: Global) -> Result<Command<'a>, AllocError>
 }
 
 /// The command `squash`.
-fn squash_command<'a>(alloc: Global) -> Result<Command<'a>, AllocError>
+pub(crate) fn squash_command<'a>(alloc: Global) -> Result<Command<'a>, AllocError>
     ensures app { IfOk result (λ command. app_of command ≡ squash_app) }
     ensures local { IfOk result (λ command. (fields_of command).has_globals ≡ false) }
 {
     let about = "makes few push lines of many delta lines";
     let keep = text_option(alloc, "keep", SQUASHED_HELP);
-    with_option(new_command(alloc, "squash", about, SQUASH_HELP), keep)
+    let command = with_option(new_command(alloc, "squash", about, SQUASH_HELP), keep)?;
+    let until = ranged_option(alloc, "until", 1, MOST_CHANGES, UNTIL_HELP);
+    let command = with_option(command, until)?;
+    let without = ranged_option(alloc, "without", 1, REPLICAS as u32, WITHOUT_HELP);
+    with_option(command, without)
 }
 
 /// The whole command line.

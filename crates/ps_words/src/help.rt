@@ -36,6 +36,14 @@ pub const SQUASH_FIRST_HELP: &str =
 pub const SQUASHED_HELP: &str =
     "the kept file that is squashed in its place, while no other program has it";
 
+/// What `--until` means, with the range 1 to `MOST_CHANGES`.
+pub const UNTIL_HELP: &str =
+    "takes only so many change lines, from the first on, 1 to 1000000000; without it, all";
+
+/// What `--without` means, with the range 1 to `REPLICAS`.
+pub const WITHOUT_HELP: &str =
+    "leaves out what this replica assigned, counted and chose, 1 to 32; without it, nothing";
+
 /// What `--from` of `sync` means.
 pub const FROM_HELP: &str = "the port of the replica whose deltas are pulled, 1 to 65535";
 
@@ -51,6 +59,9 @@ pub const JOINED_SECOND_HELP: &str = "the port of the other replica, 1 to 65535"
 
 /// What `--once` means.
 pub const ONCE_HELP: &str = "ends once each replica has all that the other one had";
+
+/// What `--check` means.
+pub const CHECK_HELP: &str = "says whether both replicas hold the same, and merges nothing";
 
 /// What `--from` of `follow` means.
 pub const FOLLOWED_HELP: &str = "the port of the replica that is followed, 1 to 65535";
@@ -251,14 +262,24 @@ and a line `port 7002: ..` with the reason when one of them is lost.
 With --once it writes `joined` on standard output once each has all that the other
 one had, and ends. A fault ends it then, and changes that were merged stay.
 
+With --check it merges nothing. It asks each for all of its changes, and compares what
+the cells hold: contents, counters and sets, shown or not. Then it writes `in step at`
+and both versions; or `differ`, the number of cells that differ and the first 20 of
+them, row by row, and the exit status is 3.
+
 Examples:
 
   sheet join --from 7001 --to 7002
   sheet join --from 7001 --to 7002 --once --explain
+  sheet join --from 7001 --to 7002 --check
 
 The second one writes
 
-  joined";
+  joined
+
+and the third one then, say,
+
+  in step at 4 and 2";
 
 /// What stands below the options of `sheet follow --help`.
 pub const FOLLOW_HELP: &str = "\
@@ -320,10 +341,21 @@ then, or stays as it is, whenever the program ends. A file that another program 
 is refused. Standard error tells how many changes became how many:
 `squashed plan.lines, 306 changes to 2`.
 
+With --until or --without the lines become those of a sheet from before some changes.
+--until counts lines that push; the lines after them are left out, and have to be in
+order all the same. --without leaves out of each line what that replica stamped: its
+assignments, its counts and what it chose. What a line doesn't have can't come back:
+a squashed line, or one that `pull` made of several changes, has the last assignment
+alone, and no set tells who took an option out. Standard error tells what is lost:
+`squash: left out 12 of 40 lines`, `squash: left out parts of 3 cells`. Neither goes
+with --keep, as the file would lose them.
+
 Examples:
 
   sheet squash < plan.lines > small
   sheet squash --keep plan.lines
+  sheet squash --until 100 < plan.lines > early.lines
+  sheet squash --without 2 < plan.lines > others.lines
 
 From
 

@@ -1,14 +1,14 @@
 //! The words that the program is started with.
 ghost use Rattle.std.specs.Option.{ForSome};
-ghost use Rattle.std.specs.Prelude.{◌≤◌};
+ghost use Rattle.std.specs.Prelude.{◌≡◌, ◌≤◌, IsSome, None, false, true};
 ghost use Rattle.ps_grid.specs.declared.parties.TheConstants.{REPLICAS, SEATS, WORKERS};
 ghost use Rattle.ps_words.specs.declared.options.TheConstants.{LONGEST_IDLE, LONGEST_PAUSE};
-ghost use Rattle.ps_words.specs.declared.options.TheConstants.{LONGEST_WAIT, MOST_SESSIONS};
+ghost use Rattle.ps_words.specs.declared.options.TheConstants.{LONGEST_WAIT, MOST_CHANGES, MOST_SESSIONS};
 
 /// The most sessions that `serve` can be asked for.
 pub const MOST_SESSIONS: u32 = 1_000_000;
 
-/// The longest that a connection may wait for a seat, in seconds.
+/// The longest that a connection may wait for a slot, in seconds.
 pub const LONGEST_WAIT: u8 = 60;
 
 /// The longest after which a session ends whose peer sends nothing, in seconds: a day.
@@ -16,6 +16,9 @@ pub const LONGEST_IDLE: u32 = 86_400;
 
 /// The greatest number of milliseconds of `--every`, an option of `follow` in earlier versions.
 pub const LONGEST_PAUSE: u16 = 60_000;
+
+/// The most change lines that `--until` of `squash` can ask for.
+pub const MOST_CHANGES: u32 = 1_000_000_000;
 
 /// What a sheet is opened with.
 #[derive(Clone, Copy, PartialEq, Eq)]
@@ -70,7 +73,7 @@ pub struct ServeOptions<'a> {
     pub sessions: Option<u32>,
     /// How many sessions to serve at a time, 1 to `SEATS`.
     pub seats: u16,
-    /// How many seconds a connection waits for a seat, up to `LONGEST_WAIT`.
+    /// How many seconds a connection waits for a slot, up to `LONGEST_WAIT`.
     pub wait: u8,
     /// After how many seconds a session ends whose peer sends nothing, 1 to `LONGEST_IDLE`; never where there is none.
     pub idle: Option<u32>,
@@ -105,10 +108,13 @@ pub struct JoinOptions {
     pub to: u16,
     /// Whether it ends once each has all that the other one had.
     pub once: bool,
+    /// Whether it only says at which cells they differ, and merges nothing.
+    pub check: bool,
     /// Whether standard error gets the reason if a port can't be used.
     pub explain: bool,
     ghost from_in_range: { 1 ≤ from },
     ghost to_in_range: { 1 ≤ to },
+    ghost one_way: { once ≡ true → check ≡ false },
 }
 
 /// What `sheet follow` is asked for.
@@ -141,6 +147,13 @@ pub struct TalkOptions {
 pub struct SquashOptions<'a> {
     /// The path of the kept file that is squashed in its place; standard input is squashed where there is none.
     pub keep: Option<&'a str>,
+    /// How many change lines are taken, from the first on, 1 to `MOST_CHANGES`; all of them where there is none.
+    pub until: Option<u32>,
+    /// The replica whose parts of the changes are left out, 1 to `REPLICAS`; nothing is where there is none.
+    pub without: Option<u8>,
+    ghost until_in_range: { ForSome until (λ n. (1 ≤ n) × (n ≤ MOST_CHANGES)) },
+    ghost without_in_range: { ForSome without (λ n. (1 ≤ n) × (n ≤ REPLICAS)) },
+    ghost whole_in_place: { IsSome keep → (until ≡ None) × (without ≡ None) },
 }
 
 /// A command with what it is asked for.
@@ -154,7 +167,7 @@ pub enum Options<'a> {
     Serve(ServeOptions<'a>),
     /// Pushes all changes of one replica to another.
     Sync(SyncOptions),
-    /// Merges the changes of each of two replicas at the other.
+    /// Merges the changes of each of two replicas at the other, or compares them.
     Join(JoinOptions),
     /// Writes all changes of a replica as change lines.
     Follow(FollowOptions),

@@ -4,11 +4,13 @@ ghost use Rattle.clap.specs.Words.{found_of, rows_of, subcommand_of};
 ghost use Rattle.ps_words.specs.Words.{GivesCount, GivesFlag, GivesNumber, GivesNumbers, GivesOptions, GivesText};
 ghost use Rattle.ps_words.specs.Words.{asks_for_page, name_of, sheet_app};
 
-use crate::commands::sheet_command;
+use crate::commands::{join_command, sheet_command, squash_command};
 use crate::options::{
-    FollowOptions, JoinOptions, LONGEST_IDLE, LONGEST_PAUSE, LONGEST_WAIT, MOST_SESSIONS, Options,
-    RunOptions, ServeOptions, SheetOptions, SquashOptions, SyncOptions, TableOptions, TalkOptions,
+    FollowOptions, JoinOptions, LONGEST_IDLE, LONGEST_PAUSE, LONGEST_WAIT, MOST_CHANGES,
+    MOST_SESSIONS, Options, RunOptions, ServeOptions, SheetOptions, SquashOptions, SyncOptions,
+    TableOptions, TalkOptions,
 };
+use clap::error::ErrorKind;
 use clap::{ArgMatches, Error};
 use ps_grid::{REPLICAS, SEATS, WORKERS};
 use std::alloc::{AllocError, Global};
@@ -35,6 +37,20 @@ fn count_of(matches: &ArgMatches<'_>, id: &str, most: u32) -> Option<Option<u32>
     match matches.get_one::<u32>(id) {
         Some(number) if 1 <= number && number <= most => Some(Some(number)),
         _ => None,
+    }
+}
+
+/// The replica of an option that may be left out, if it is one.
+fn replica_of(matches: &ArgMatches<'_>, id: &str) -> Option<Option<u8>>
+    ensures number { IfSome result (GivesCount (rows_of (found_of matches.now)) id.now) }
+    ensures range { IfSome result (λ count. IfSome count (λ n. (1 ≤ n) × (n ≤ REPLICAS))) }
+{
+    if !matches.contains_id(id) {
+        return Some(None);
+    }
+    match number_of(matches, id, REPLICAS) {
+        Some(number) => Some(Some(number)),
+        None => None,
     }
 }
 
@@ -167,19 +183,38 @@ fn sync_options<'a>(matches: &ArgMatches<'a>) -> Option<Options<'a>>
     Some(Options::Sync(SyncOptions { from, to, explain }))
 }
 
-/// The ports of `join`, and its flags.
+/// The ports of `join`, and its flags; none if it would both merge and compare.
 fn join_options<'a>(matches: &ArgMatches<'a>) -> Option<Options<'a>>
     ensures { IfSome result (λ options. (name_of options ≡ codes "join")
         × GivesNumbers (rows_of (found_of matches.now)) options) }
 {
     let first = port_of(matches, "from")?;
     let second = port_of(matches, "to")?;
+    let once = flag_of(matches, "once");
+    let check = flag_of(matches, "check");
+    if once && check {
+        return None;
+    }
     Some(Options::Join(JoinOptions {
         from: first,
         to: second,
-        once: flag_of(matches, "once"),
+        once,
+        check,
         explain: flag_of(matches, "explain"),
     }))
+}
+
+/// Whether the options of `join` ask it both to merge and to compare.
+fn merges_and_checks(matches: &ArgMatches<'_>) -> bool {
+    matches.get_flag("once") && matches.get_flag("check")
+}
+
+/// The error of a join that would both merge and compare.
+fn merging_error(alloc: Global) -> Result<Error, AllocError> {
+    join_command(alloc)?.error(
+        ErrorKind::ArgumentConflict,
+        "the argument '--once' cannot be used with '--check', which merges nothing",
+    )
 }
 
 /// The port and the pause of `follow`, and its flags.
@@ -209,14 +244,35 @@ fn talk_options<'a>(matches: &ArgMatches<'a>) -> Option<Options<'a>>
     Some(Options::Talk(TalkOptions { to, explain }))
 }
 
-/// The file of `squash`.
-fn squash_options<'a>(matches: &ArgMatches<'a>) -> Options<'a>
-    ensures name { name_of result ≡ codes "squash" }
-    ensures numbers { GivesNumbers (rows_of (found_of matches.now)) result }
+/// The file of `squash`, and what it takes of its lines; none if it would leave some of its file out.
+fn squash_options<'a>(matches: &ArgMatches<'a>) -> Option<Options<'a>>
+    ensures { IfSome result (λ options. (name_of options ≡ codes "squash")
+        × GivesNumbers (rows_of (found_of matches.now)) options) }
 {
-    Options::Squash(SquashOptions {
-        keep: text_of(matches, "keep"),
-    })
+    let keep = text_of(matches, "keep");
+    let until = count_of(matches, "until", MOST_CHANGES)?;
+    let without = replica_of(matches, "without")?;
+    if keep.is_some() && (until.is_some() || without.is_some()) {
+        return None;
+    }
+    Some(Options::Squash(SquashOptions {
+        keep,
+        until,
+        without,
+    }))
+}
+
+/// Whether the options of `squash` would leave out some of a file in its place.
+fn squashes_in_part(matches: &ArgMatches<'_>) -> bool {
+    matches.contains_id("keep") && (matches.contains_id("until") || matches.contains_id("without"))
+}
+
+/// The error of a squash in its place that would leave some out.
+fn in_part_error(alloc: Global) -> Result<Error, AllocError> {
+    squash_command(alloc)?.error(
+        ErrorKind::ArgumentConflict,
+        "with '--keep <keep>' all is kept: '--until' and '--without' write a new file",
+    )
 }
 
 /// The options of a command by its name.
@@ -232,7 +288,7 @@ fn options_of<'a>(name: &str, matches: &ArgMatches<'a>) -> Option<Options<'a>>
         "join" => join_options(matches),
         "follow" => follow_options(matches),
         "talk" => talk_options(matches),
-        "squash" => Some(squash_options(matches)),
+        "squash" => squash_options(matches),
         _ => None,
     }
 }
@@ -250,6 +306,12 @@ pub fn read_words<'a>(alloc: Global, words: &'a [String]) -> Result<Options<'a>,
     let Some((name, found)) = matches.subcommand() else {
         return Err(AllocError.into());
     };
+    if name == "squash" && squashes_in_part(found) {
+        return Err(in_part_error(alloc)?);
+    }
+    if name == "join" && merges_and_checks(found) {
+        return Err(merging_error(alloc)?);
+    }
     let Some(options) = options_of(name, found) else {
         return Err(AllocError.into());
     };

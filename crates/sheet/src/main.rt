@@ -6,7 +6,8 @@
 //! - `sheet table` reads a table of CSV and writes the table of its shown values.
 //! - `sheet serve` answers the lines of several connections, side by side and on one sheet, and shows it to browsers.
 //! - `sheet sync` pushes all changes of one replica to another; both listen on this machine.
-//! - `sheet join` merges the changes of each of two such replicas at the other, once or until it is stopped.
+//! - `sheet join` merges the changes of each of two such replicas at the other, once or until it is stopped. With
+//!   `--check` it says whether they hold the same.
 //! - `sheet follow` writes the changes of such a replica as change lines.
 //! - `sheet talk` is a session at such a replica.
 //! - `sheet squash` makes few change lines of many delta lines.
@@ -17,8 +18,8 @@
 //! the exit status. The contracts there say what each command does.
 //!
 //! The exit status is 0 if all went well, and 2 if the command line is refused. It is 1 if a device failed, a port
-//! can't be used or another program has the file. For any other refusal it is 3. A line that `sheet run` refuses
-//! changes it only with `--strict`.
+//! can't be used or another program has the file. For any other refusal it is 3, and if compared replicas differ. A
+//! line that `sheet run` refuses changes it only with `--strict`.
 //!
 //! With `set A1 5` and `get A1` on standard input, `sheet run` writes `ok 1` and `val 5`. With
 //! `2,=[.A1]*3`, `sheet table` writes `2,6`.
@@ -32,9 +33,10 @@ ghost use Rattle.ps_grid.specs.Blanks.{IsBlankOf};
 use clap::Error;
 use clap::error::ErrorKind;
 use ps_commands::{
-    KeptOnlooker, Onlooker, ProgramFault, answer_kept, answer_lines, follow_on, join_on,
+    KeptObserver, Observer, ProgramFault, answer_kept, answer_lines, check_on, follow_on, join_on,
     join_once_on, leave_unfreed, lost_file, open_kept_sheet, port_fault, serve, serve_kept,
-    squash_kept, squash_on, status_of, sync_on, table_on, talk_on, tell_opened,
+    squash_kept, squash_on, squash_part_on, status_of, sync_on, table_on, talk_on, tell_left_out,
+    tell_opened,
 };
 use ps_device::{ConsoleOutput, Reading, Sink, Writing};
 use ps_eval::Meter;
@@ -42,8 +44,8 @@ use ps_grid::Refusal;
 use ps_server::{Closed, Counts};
 use ps_session::{HeldOutput, Resources};
 use ps_words::{
-    Options, PAGE_IS_GONE, RunOptions, ServeOptions, TableOptions, TalkOptions, asks_for_page,
-    read_words,
+    JoinOptions, Options, PAGE_IS_GONE, RunOptions, ServeOptions, TableOptions, TalkOptions,
+    asks_for_page, read_words,
 };
 use std::fs::File;
 use std::io;
@@ -67,7 +69,7 @@ fn main(rt: HostRuntime) -> ExitCode {
     let _held = [held_end(&rt), held_end(&rt), held_end(&rt)];
     match start(&rt, &rt) {
         Ok(code) => code,
-        Err(fault) => report(&rt, &fault, false),
+        Err(fault) => report(&rt, &fault),
     }
 }
 
@@ -152,32 +154,40 @@ fn run_command<
         + Sync,
 >(rt: &HostRuntime, threads: &R, options: Options<'_>) -> Result<ExitCode, ProgramFault> {
     let counts = Counts::new();
-    let done = on_standard::<R, Brand, Brand, Brand, Brand>(rt, threads, counts, options);
+    let done = match options {
+        Options::Join(options) if options.check => {
+            check_ends::<R, Brand>(rt, threads, counts, options)
+        }
+        _ => match on_standard::<R, Brand, Brand, Brand, Brand>(rt, threads, counts, options) {
+            Ok(()) => Ok(ExitCode::SUCCESS),
+            Err(fault) => Err(fault),
+        },
+    };
     match done {
-        Ok(()) => Ok(ExitCode::SUCCESS),
-        Err(fault) => Ok(report(rt, &fault, wants_words(options))),
+        Ok(code) => Ok(code),
+        Err(fault) => Ok(report(rt, &fault)),
     }
 }
 
-/// Returns whether the options ask for the reason if a port can't be used.
-fn wants_words(options: Options<'_>) -> bool {
-    match options {
-        Options::Serve(options) => options.explain,
-        Options::Sync(options) => options.explain,
-        Options::Join(options) => options.explain,
-        Options::Follow(options) => options.explain,
-        Options::Talk(options) => options.explain,
-        Options::Run(_) | Options::Table(_) | Options::Squash(_) => false,
-    }
+/// Compares two replicas, and returns the exit status that says whether they hold the same.
+fn check_ends<R: Net<Stream = TcpStream>, O: Ledger>(
+    rt: &HostRuntime,
+    threads: &R,
+    counts: Counts,
+    options: JoinOptions,
+) -> Result<ExitCode, ProgramFault>
+    requires output { IsBlankOf counts.output O.name O.parts }
+{
+    let mut sink = console::<O>(rt, counts.output)?;
+    let status = check_on(threads, rt.alloc(), options, &mut sink)?;
+    Ok(ExitCode::from(status))
 }
 
-/// Reports what ended the program early. It adds why a port can't be used, if the options or a terminal ask for it.
-fn report(rt: &HostRuntime, fault: &ProgramFault, asked: bool) -> ExitCode {
+/// Reports what ended the program early. If a port can't be used, a second line says why.
+fn report(rt: &HostRuntime, fault: &ProgramFault) -> ExitCode {
     let _ = eprintln!(rt; "{fault}");
     if let Some(port) = port_fault(fault) {
-        if is_explained(rt, asked) {
-            let _ = eprintln!(rt; "{port}");
-        }
+        let _ = eprintln!(rt; "{port}");
     }
     ExitCode::from(status_of(fault))
 }
@@ -241,7 +251,12 @@ fn on_standard<
             None => {
                 let mut source = Reading::<_, I>::new(rt.reader(), counts.input);
                 let mut sink = Writing::<_, O>::new(rt.stdout(), counts.output);
-                squash_on(rt.alloc(), &mut source, &mut sink)
+                if options.until.is_none() && options.without.is_none() {
+                    return squash_on(rt.alloc(), &mut source, &mut sink);
+                }
+                let left_out = squash_part_on(rt.alloc(), &mut source, &mut sink, options)?;
+                tell_left_out(rt.alloc(), options, left_out, &mut rt.stderr());
+                Ok(())
             }
         },
     }
@@ -283,16 +298,16 @@ fn run_lines<R: Threads + Sync, I: Ledger, O: Ledger, M: Ledger>(
     let mut source = Reading::<_, I>::new(rt.reader(), counts.input);
     let mut sink = console::<O>(rt, counts.output)?;
     let told = is_explained(rt, options.explain).then_some(rt.stderr());
-    let mut onlooker = Onlooker::new(rt.alloc(), told);
+    let mut observer = Observer::new(rt.alloc(), told);
     answer_lines(
         resources_of(rt, threads),
         &mut source,
         &mut sink,
         &mut meter,
         options.sheet,
-        &mut onlooker,
+        &mut observer,
     )?;
-    onlooker.end(options.strict)
+    observer.end(options.strict)
 }
 
 /// Answers the lines of standard input on standard output by the sheet of a file. Standard error gets the opened file,
@@ -321,7 +336,7 @@ fn run_kept<R: Files<File = File> + Threads + Sync, I: Ledger, O: Ledger, H: Led
     let writing = Writing::<_, O>::new(rt.stdout(), counts.output);
     let mut sink = HeldOutput::<_, H>::new(rt.alloc(), writing, counts.held);
     let told = is_explained(rt, options.explain).then_some(rt.stderr());
-    let mut onlooker = KeptOnlooker::new(Onlooker::new(rt.alloc(), told), warner);
+    let mut observer = KeptObserver::new(Observer::new(rt.alloc(), told), warner);
     let done = answer_kept(
         resources,
         &mut source,
@@ -329,11 +344,11 @@ fn run_kept<R: Files<File = File> + Threads + Sync, I: Ledger, O: Ledger, H: Led
         sheet,
         &mut keeper,
         &mut meter,
-        &mut onlooker,
+        &mut observer,
     );
     let is_lost = keeper.into_journal().is_stopped();
     match done {
-        Ok(()) => onlooker.end(options.strict),
+        Ok(()) => observer.end(options.strict),
         Err(_) if is_lost => Err(lost_file(rt.alloc(), path)),
         Err(fault) => Err(fault),
     }
@@ -386,14 +401,14 @@ fn talk_lines<R: Net<Stream = TcpStream>, I: Ledger, O: Ledger>(
     let source = Reading::<_, I>::new(rt.reader(), counts.input);
     let mut sink = console::<O>(rt, counts.output)?;
     let told = is_explained(rt, options.explain).then_some(rt.stderr());
-    let mut onlooker = Onlooker::new(rt.alloc(), told);
+    let mut observer = Observer::new(rt.alloc(), told);
     talk_on(
         threads,
         rt.alloc(),
         options,
         source,
         &mut sink,
-        &mut onlooker,
+        &mut observer,
     )
 }
 
@@ -410,7 +425,7 @@ fn put_table<R: Threads + Sync, I: Ledger, O: Ledger, M: Ledger>(
 {
     let mut meter = Meter::<M>::new(counts.evaluations);
     let told = is_explained(rt, options.explain).then_some(Vec::new(rt.alloc()));
-    let mut onlooker = Onlooker::new(rt.alloc(), told);
+    let mut observer = Observer::new(rt.alloc(), told);
     let mut source = Reading::<_, I>::new(rt.reader(), counts.input);
     let mut sink = Writing::<_, O>::new(rt.stdout(), counts.output);
     let done = table_on(
@@ -419,9 +434,9 @@ fn put_table<R: Threads + Sync, I: Ledger, O: Ledger, M: Ledger>(
         &mut sink,
         &mut meter,
         options,
-        &mut onlooker,
+        &mut observer,
     );
-    if let Some(text) = onlooker.into_out() {
+    if let Some(text) = observer.into_out() {
         let _ = rt.stderr().write_all(&text);
     }
     done

@@ -43,8 +43,8 @@ struct Noted {
 }
 
 /// The cell at a position in the order of the grid.
-fn at(rt: &impl Abort, place: usize) -> Cell {
-    Cell::from_index(place).expect(rt, "a cell")
+fn at(rt: &impl Abort, position: usize) -> Cell {
+    Cell::from_index(position).expect(rt, "a cell")
 }
 
 /// What the pass shows of a cell, with the version.
@@ -55,8 +55,8 @@ fn read<L: DeskName>(rt: &impl Abort, pass: &mut Pass<L>, cell: Cell) -> (u64, V
 
 fn note<L: DeskName>(rt: &impl Abort, alloc: Global, pass: &mut Pass<L>) -> Result<Noted, Refusal> {
     let mut values = Vec::with_capacity(alloc, CELLS)?;
-    for place in 0..CELLS {
-        values.push(read(rt, pass, at(rt, place)).1)?;
+    for position in 0..CELLS {
+        values.push(read(rt, pass, at(rt, position)).1)?;
     }
     let (version, _) = read(rt, pass, at(rt, 0));
     let appended = pass.appended();
@@ -70,10 +70,10 @@ fn note<L: DeskName>(rt: &impl Abort, alloc: Global, pass: &mut Pass<L>) -> Resu
 /// The pass shows what was noted.
 fn check_noted<L: DeskName>(rt: &impl Abort, pass: &mut Pass<L>, noted: &Noted) {
     assert_eq!(rt; pass.appended(), noted.appended);
-    for (place, value) in noted.values.iter().enumerate() {
+    for (position, value) in noted.values.iter().enumerate() {
         assert!(rt;
-            read(rt, pass, at(rt, place)) == (noted.version, *value),
-            "{place}"
+            read(rt, pass, at(rt, position)) == (noted.version, *value),
+            "{position}"
         );
     }
 }
@@ -182,8 +182,8 @@ fn over_again<T: Abort + Threads + Wait + Sync>(
         Ok(ended) => ended,
         Err((sheet, refusal)) => {
             assert!(rt; refusal == Refusal::Memory && sheet.version() == 0);
-            for place in 0..CELLS {
-                assert!(rt; sheet.shown(at(rt, place)) == Value::Empty, "{place}");
+            for position in 0..CELLS {
+                assert!(rt; sheet.shown(at(rt, position)) == Value::Empty, "{position}");
             }
             match over(rt, alloc, sheet, rows) {
                 Ok(ended) => ended,

@@ -104,9 +104,9 @@ fn take_turns<'d, L: DeskName, W: Wait + Drop, T: Abort + Threads + Wait + Clock
         };
         assert!(rt; is_due, "at step {at}");
     }
-    passes.push(first.leave()).ok().expect(rt, "room");
+    passes.push(first.leave().0).ok().expect(rt, "room");
     assert!(rt; takes_turn(rt, alloc, &mut second, &mut meter, last));
-    passes.push(second.leave()).ok().expect(rt, "room");
+    passes.push(second.leave().0).ok().expect(rt, "room");
     passes
 }
 

@@ -33,7 +33,7 @@ enum Asked {
 }
 
 /// What a receipt says of the history.
-fn place(receipt: Receipt) -> (u64, bool) {
+fn position(receipt: Receipt) -> (u64, bool) {
     (receipt.number, receipt.fresh)
 }
 
@@ -82,11 +82,11 @@ fn answers<L: DeskName, W: Wait + Drop, T: Abort + Threads + Wait + Sync>(
     match asked {
         Enter(name, entry, number) => {
             let change = Change::Edit(entered(rt, alloc, name, entry));
-            place(make(rt, alloc, desk, pass, change)) == (*number, true)
+            position(make(rt, alloc, desk, pass, change)) == (*number, true)
         }
         Receive(number, fresh) => {
             let again = delta.twin(alloc).ok().expect(rt, "the delta once more");
-            place(make(rt, alloc, desk, pass, Change::Delta(again))) == (*number, *fresh)
+            position(make(rt, alloc, desk, pass, Change::Delta(again))) == (*number, *fresh)
         }
         Pull(from, at_most, due) => pull(rt, alloc, desk, pass, *from, *at_most) == *due,
         Read(name, version, value) => read(rt, pass, name) == (*version, *value),

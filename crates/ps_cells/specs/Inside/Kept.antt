@@ -1,5 +1,5 @@
 -- What the cells keep, and what a recalculation needs and gives.
-use Rattle.std.specs.Prelude.{◌≡◌, ◌≤◌, ◌<◌, ◌⊎◌, ℕ, true, false, List, [], length, map, nat_eq, vec_capacity}
+use Rattle.std.specs.Prelude.{◌≡◌, ◌≤◌, ◌<◌, ◌⊎◌, ℕ, true, false, List, [], length, map, nat_eq}
 use Rattle.std.specs.List.{All, IsDistinct}
 use Rattle.ps_grid.specs.Chains.{In, InRegion, IsDepth}
 use Rattle.ps_grid.specs.declared.size.TheConstants.{CELLS}
@@ -14,14 +14,12 @@ use Rattle.ps_cells.specs.Settled.{refers_to, Cyclic, IsSettled}
 use Rattle.ps_cells.specs.Inside.Formulas.{forms_of}
 use Rattle.ps_cells.specs.Inside.Waiting.{first_value}
 use Rattle.ps_cells.specs.Inside.Steps.{AreListed, flag_at, HasRoom}
-use Rattle.ps_cells.specs.Inside.Walk.{IsStateChange, IsCount, IsRegionOf, IsWork, InFrame, ListsCyclic, formula_at}
+use Rattle.ps_cells.specs.Inside.Walk.{IsStateChange, IsCount, IsRegionOf, IsWork, InFrame, HoldsCyclic, formula_at}
 use Rattle.ps_cells.specs.declared.tables.Tables.{Tables}
 
--- the cyclic cells are listed, with room for all cells of the grid, no cell is flagged, there are workers, and the
--- region is that of a change of its source
+-- the cyclic cells are known, no cell is flagged, there are workers, and the region is that of a change of its source
 pub record IsTidy (s : State) (x : Tables) : Type 0 where
-  pub cyclic : ListsCyclic s x.cyclic.items
-  pub room : CELLS ≤ vec_capacity x.cyclic
+  pub cyclic : HoldsCyclic s x.cyclic
   pub length : length x.flags.items ≡ CELLS
   pub off : (c : ℕ) → flag_at x.flags.items c ≡ false
   pub level : HasRoom CELLS x.level

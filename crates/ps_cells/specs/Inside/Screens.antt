@@ -1,7 +1,6 @@
 -- What the cells show, and what those that were put showed before.
-use Rattle.std.specs.Prelude.{◌≡◌, ◌↔◌, ◌⊎◌, ◌&&◌, ◌||◌, not, ℕ, Bool, true, false, List, [], ◌∷◌, ◌++◌, length, map}
-use Rattle.std.specs.Prelude.{nat_eq}
-use Rattle.std.specs.List.{IsDistinct, list_any}
+use Rattle.std.specs.Prelude.{◌≡◌, ◌≢◌, ◌↔◌, ◌⊎◌, ℕ, Bool, true, false, List, [], ◌∷◌, ◌++◌, length, map, nat_eq}
+use Rattle.std.specs.List.{IsDistinct}
 use Rattle.ps_grid.specs.Chains.{In}
 use Rattle.ps_grid.specs.declared.size.TheConstants.{CELLS}
 use Rattle.ps_value.specs.declared.value.Value.{Value}
@@ -10,6 +9,7 @@ use Rattle.ps_shown.specs.declared.kept.Kept.{Kept}
 use Rattle.ps_shown.specs.Kept.{value_of as value_kept}
 use Rattle.ps_shown.specs.Shown.{shown_at}
 unfoldable pub use Rattle.ps_cells.specs.ChangedCells.{put_back}
+use Rattle.ps_region.specs.CellSets.{has_cell}
 use Rattle.ps_cells.specs.Inside.Steps.{flag_at}
 use Rattle.ps_cells.specs.Inside.Waiting.{is_waiting}
 
@@ -46,16 +46,11 @@ abbrev pub ListsDiffering : ℕ × Kept → Assignment → List ℕ → List ℕ
 ListsDiffering e w cells cells2 =
     ((w e.0 ≡ value_kept e.1) × (cells2 ≡ cells)) ⊎ ((¬ (w e.0 ≡ value_kept e.1)) × (cells2 ≡ cells ++ e.0 ∷ []))
 
--- exactly the cells that show #CYCLE! by one of two assignments, each once
-pub record ShowCycle (w v : Assignment) (cells : List ℕ) : Type 0 where
-  pub once : IsDistinct nat_eq cells
-  pub exact : (c : ℕ) → list_any (nat_eq c) cells ≡ (is_waiting (w c) || is_waiting (v c))
+-- the set has exactly the cells that show #CYCLE!
+abbrev pub ShowCycle : Assignment → List Bool → Type 0
+ShowCycle w set = (c : ℕ) → has_cell set c ≡ is_waiting (w c)
 
--- #CYCLE! was kept of the cell, and it shows another value where the cells show w
-abbrev pub was_cyclic : ℕ × Kept → Assignment → Bool
-was_cyclic e w = is_waiting (value_kept e.1) && not (is_waiting (w e.0))
-
--- ONE CELL is put into the list if it was cyclic
-abbrev pub AddsCyclic : ℕ × Kept → Assignment → List ℕ → List ℕ → Type 0
-AddsCyclic e w cells cells2 =
-    ((was_cyclic e w ≡ true) × (cells2 ≡ cells ++ e.0 ∷ [])) ⊎ ((was_cyclic e w ≡ false) × (cells2 ≡ cells))
+-- ONE CELL is put into the set if #CYCLE! was kept of it, or else taken out
+abbrev pub HoldsAsKept : ℕ × Kept → List Bool → List Bool → Type 0
+HoldsAsKept e set set2 =
+    (has_cell set2 e.0 ≡ is_waiting (value_kept e.1)) × ((c : ℕ) → c ≢ e.0 → has_cell set2 c ≡ has_cell set c)

@@ -9,6 +9,7 @@ use Rattle.ps_value.specs.declared.value.Fault.{Fault}
 use Rattle.ps_eval.specs.Items.{Assignment}
 use Rattle.ps_delta.specs.State.{State, IsInGrid}
 use Rattle.ps_cells.specs.Settled.{refers_to, Cyclic, value_of, IsSettled}
+use Rattle.ps_region.specs.CellSets.{has_cell}
 pub use Rattle.ps_region.specs.Found.{Found, IsFound, IsFrame, IsCount}
 pub use Rattle.ps_cells.specs.Recalculated.{formula_at, InFrame, Changed, IsDue, IsWork}
 
@@ -70,11 +71,10 @@ pub record Walked (t : State) (v : Assignment) (touched : List ℕ) (Done : ℕ 
 abbrev pub IsRegionOf : State → Option ℕ → Found → Type 0
 IsRegionOf s source f = IfSome source (λ c. IsFound (refers_to s) (formula_at s) (c ∷ []) f)
 
--- the list has just the cyclic cells, each once
-pub record ListsCyclic (t : State) (cells : List ℕ) : Type 0 where
-  pub once : IsDistinct nat_eq cells
-  pub sound : (c : ℕ) → In cells c → Cyclic t c
-  pub complete : (c : ℕ) → Cyclic t c → In cells c
+-- the set has just the cyclic cells
+pub record HoldsCyclic (t : State) (set : List Bool) : Type 0 where
+  pub sound : (c : ℕ) → has_cell set c ≡ true → Cyclic t c
+  pub complete : (c : ℕ) → Cyclic t c → has_cell set c ≡ true
 
 -- LEVELS: the cells of the frame in lists 1, 2, .. `top`, each cell in one; in the frame a cell refers to cells of
 -- lower levels alone

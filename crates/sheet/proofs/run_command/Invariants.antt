@@ -11,3 +11,6 @@ ghosts-on_standard-M-Ledger g a = record { name = a.counts.evaluations.name; par
 
 abbrev pub ghosts-on_standard-H-Ledger : goal.ghosts-on_standard-H-Ledger
 ghosts-on_standard-H-Ledger g a = record { name = a.counts.held.name; parts = a.counts.held.parts }
+
+abbrev pub ghosts-check_ends : goal.ghosts-check_ends
+ghosts-check_ends g a = record { name = a.counts.output.name; parts = a.counts.output.parts }

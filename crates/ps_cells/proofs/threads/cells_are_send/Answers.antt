@@ -18,6 +18,7 @@ use Rattle.ps_delta.specs.contracts.grid.Grid as grid
 use Rattle.ps_delta.specs.contracts.grid.Grid.TheInside as grid_inside
 use Rattle.ps_grid.specs.contracts.cell.Cell as cell
 use Rattle.ps_index.specs.contracts.index.Index as index
+use Rattle.ps_region.specs.contracts.cell_set.CellSet as cell_set
 use Rattle.ps_region.specs.contracts.region.Region as region
 use Rattle.ps_cells.specs.contracts.cells.Cells.TheInside as cells_inside
 use Rattle.ps_cells.specs.contracts.tables.Tables as tables
@@ -40,8 +41,8 @@ source_send : IsSend (as_row (Option.the_field cell.the_row))
 source_send = search (crosses, sendable) depth 20
 
 tables_send : IsSend grid.the_row → IsSend index.the_row → IsSend screen.the_row → IsSend region.the_row
-    → IsSend level.the_row → IsSend tables.the_row
-tables_send g i s r l = declared_send tables.the_type (
+    → IsSend cell_set.the_row → IsSend level.the_row → IsSend tables.the_row
+tables_send g i s r k l = declared_send tables.the_type (
   as_row_send grid.the_field g,
   (
     as_row_send index.the_field i,
@@ -52,7 +53,7 @@ tables_send g i s r l = declared_send tables.the_type (
         (
           source_send,
           (
-            as_row_send (Vec.the_field cell.the_row Global.the_row ghosts) list_send,
+            as_row_send cell_set.the_field k,
             (as_row_send (Vec.the_field bool Global.the_row ghosts) flags_send, (l, (search sendable, tt))),
           ),
         ),
@@ -149,6 +150,8 @@ returns c =
     let i : IsSend index.the_row = record { owned = c.is_send_and_sync-3.ensures.send.owned; leaving = λ k x w. tt } in
     let s : IsSend screen.the_row = record { owned = c.is_send_and_sync-4.ensures.send.owned; leaving = λ k x w. tt } in
     let r : IsSend region.the_row = record { owned = c.is_send_and_sync-5.ensures.send.owned; leaving = λ k x w. tt } in
+    let k : IsSend cell_set.the_row =
+    record { owned = c.is_send_and_sync-6.ensures.send.owned; leaving = λ k x w. tt } in
     let l : IsSend level.the_row =
-    record { owned = c.is_send_and_sync-6.ensures.send.owned; leaving = λ k x w. (tt, (tt, tt)) } in
-    view_send _ _ _ _ _ (cells_send (tables_send g i s r l) (lists_send a))
+    record { owned = c.is_send_and_sync-7.ensures.send.owned; leaving = λ k x w. (tt, (tt, tt)) } in
+    view_send _ _ _ _ _ (cells_send (tables_send g i s r k l) (lists_send a))

@@ -5,8 +5,8 @@ use denote.Param.Send.{IsSend, sendable}
 use denote.Param.SendFields.{declared_send, as_row_send}
 use denote.Struct.Declared as S
 use Rattle.ps_keep.specs.contracts.journal.Journal as journal
-use Rattle.ps_desk.specs.contracts.shown_place.ShownPlace as place
-use Rattle.ps_kept_desk.specs.contracts.record.KeptPlace as kept
+use Rattle.ps_desk.specs.contracts.shown_position.ShownPosition as position
+use Rattle.ps_kept_desk.specs.contracts.record.DurablePosition as kept
 use Rattle.ps_kept_desk.specs.contracts.record.Record.TheInside as inside
 use Rattle.ps_kept_desk.proofs.threads.record_is_send.Goals as goal
 
@@ -19,7 +19,7 @@ returns g c =
     record { owned = c.is_send.ensures.owned; leaving = λ k. c.is_send.ensures.leaving yes } in
     let k : IsSend (kept.the_row L g.L.DeskName g.L.Named g.L.Ledger) =
     record { owned = c.is_send-2.ensures.owned; leaving = λ k. c.is_send-2.ensures.leaving yes } in
-    let p : IsSend (place.the_row L g.L.DeskName g.L.Named g.L.Ledger) =
+    let p : IsSend (position.the_row L g.L.DeskName g.L.Named g.L.Ledger) =
     record { owned = c.is_send-3.ensures.owned; leaving = λ k. c.is_send-3.ensures.leaving yes } in
     let whole : IsSend (S.row (inside.the_type L D g.L.DeskName g.L.Named g.L.Ledger g.D.Device)) =
     declared_send (inside.the_type L D g.L.DeskName g.L.Named g.L.Ledger g.D.Device) (
@@ -27,7 +27,7 @@ returns g c =
       (
         as_row_send (kept.the_field L g.L.DeskName g.L.Named g.L.Ledger) k,
         (
-          as_row_send (place.the_field L g.L.DeskName g.L.Named g.L.Ledger) p,
+          as_row_send (position.the_field L g.L.DeskName g.L.Named g.L.Ledger) p,
           (search sendable, (search sendable, tt)),
         ),
       ),

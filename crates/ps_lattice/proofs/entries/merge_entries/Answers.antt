@@ -1,27 +1,17 @@
-use Rattle.std.proofs.Common.{◌≡◌, ◌++◌, ◌-◌, drop, ap, ◌∙◌, take, length}
-use Rattle.std.proofs.lemmas.List.{take_rest}
-use Rattle.ps_lattice.proofs.Merging.{merged, entries-joined, ended_left, ended_right}
+use Rattle.std.proofs.Common.{ap, ◌∙◌}
+use Rattle.std.proofs.lemmas.Result.{IfOk-weaker}
+use Rattle.std.specs.FinMap as map
+use Rattle.ps_lattice.specs.MapLaws.{maps_commutative}
 use Rattle.ps_lattice.proofs.entries.merge_entries.Goals as goal
-use Rattle.ps_lattice.proofs.entries.merge_entries.Goals.{then-loop-i-test+else-j-theirs, else-loop-i-test}
 
--- one list has ended, and the rest of the other follows
-pub returns-clause-ok : goal.returns-clause-ok
-returns-clause-ok g c =
-    let R = g.K.Ord.cmp in
-    let f = g.X.Join.joined in
-    let all = c.loop-i.all.items in
-    let mine = c.args.mine.now in
-    let theirs = c.args.theirs.now in
-    let total = merged R f mine theirs in
-    let i = c.loop-i.i in
-    let j = c.loop-i.j in
-    let joined : (all ++ drop i mine) ++ drop j theirs ≡ total =
-    elim c.loop-i-test.branch [
-      | then-loop-i-test+else-j-theirs w ↦
-          ended_right R f all mine theirs total i j w.if-j-theirs.false c.loop-i.invariant.so_far
-      | else-loop-i-test w ↦ ended_left R f all mine theirs total i j w.loop-i-test.false c.loop-i.invariant.so_far
-    ] in
-    c.in_ok-append-2.ensures.ok
-    ∙ ap (λ l. l ++ take (length theirs - j) (drop j theirs)) c.in_ok-append.ensures.ok
-    ∙ (λ k. (all ++ take_rest mine i k) ++ take_rest theirs j k)
-    ∙ joined ∙ entries-joined R f g.met.K.Ord.total g.met.K.Linear.no_ties mine theirs c.requires.mine c.requires.theirs
+-- the second list joined with the first one is the first one joined with the second
+pub returns-then-mine-theirs-clause-ok : goal.returns-then-mine-theirs-clause-ok
+returns-then-mine-theirs-clause-ok g c =
+    IfOk-weaker c.merge_few-then-mine-theirs.result _ _ (λ v is. is
+    ∙ ap map.entries (maps_commutative g.K.Ord.cmp g.X.Join.joined g.met.K.Ord.total g.met.K.Linear.no_ties
+    (record {
+      associative = g.met.X.Join.associative;
+      commutative = g.met.X.Join.commutative;
+      idempotent = g.met.X.Join.idempotent;
+    }) (map.from_sorted {R = g.K.Ord.cmp} c.args.theirs.now) (map.from_sorted {R = g.K.Ord.cmp} c.args.mine.now)))
+    c.merge_few-then-mine-theirs.ensures.ok

@@ -4,7 +4,7 @@ use Rattle.std.proofs.lemmas.List.{get_or_read, get_or_push, length_push}
 use Rattle.ps_grid.specs.declared.size.TheConstants.{CELLS}
 use Rattle.ps_region.specs.Listed.{listed}
 use Rattle.ps_region.proofs.CountLemmas.{and_true_left}
-use Rattle.ps_region.specs.Inside.Counts.{is_in}
+use Rattle.ps_region.specs.CellSets.{has_cell}
 use Rattle.ps_region.proofs.CellListLemmas.{in-get_or}
 use Rattle.ps_region.proofs.LevellingLemmas.{Levelling-lowers, Levelling-step, Levelling-level}
 use Rattle.ps_region.proofs.LevellingLemmas.{Levels-keep, Levels-more}
@@ -41,12 +41,12 @@ release-requires-clause-some g c =
     let front = front_of order c.walk.head c.levels.«end» c.index-d.result.now c.walk-test.true s.within
     c.index-d.ensures in
     rw front.is (Levelling-lowers (g.A.After.refers c.args.change.now.after.now)
-    (is_pending (g.A.After.formula c.args.change.now.after.now) (is_in c.args.change.now.outside.now) c.args.marks.now)
+    (is_pending (g.A.After.formula c.args.change.now.after.now) (has_cell c.args.change.now.outside.now) c.args.marks.now)
     (is_frame (g.A.After.formula c.args.change.now.after.now) c.args.marks.now)
     CELLS
     (g.met.A.After.refers_below c.args.change.now.after.now)
     (frame_pending (g.A.After.formula c.args.change.now.after.now)
-    (is_in c.args.change.now.outside.now) c.args.marks.now)
+    (has_cell c.args.change.now.outside.now) c.args.marks.now)
     (frame_back (g.A.After.refers c.args.change.now.after.now)
     (g.A.After.formula c.args.change.now.after.now) c.args.marks.now
     c.requires.closed (g.met.A.After.refers_formula c.args.change.now.after.now))
@@ -64,12 +64,12 @@ walk-preserved g c =
     record {
       state = Levelling-step (g.A.After.refers c.args.change.now.after.now)
           (is_pending (g.A.After.formula c.args.change.now.after.now)
-          (is_in c.args.change.now.outside.now) c.args.marks.now)
+          (has_cell c.args.change.now.outside.now) c.args.marks.now)
           (is_frame (g.A.After.formula c.args.change.now.after.now) c.args.marks.now)
           CELLS
           (g.met.A.After.refers_below c.args.change.now.after.now)
           (frame_pending (g.A.After.formula c.args.change.now.after.now)
-          (is_in c.args.change.now.outside.now) c.args.marks.now)
+          (has_cell c.args.change.now.outside.now) c.args.marks.now)
           (frame_back (g.A.After.refers c.args.change.now.after.now)
           (g.A.After.formula c.args.change.now.after.now) c.args.marks.now
           c.requires.closed (g.met.A.After.refers_formula c.args.change.now.after.now))
@@ -117,7 +117,7 @@ levels-preserved g c =
     let r = j.state.reached in
     let same : c.walk.head ≡ c.levels.«end» = omega (arith, f, r) in
     let s = subst (λ e. Levelling (g.A.After.refers c.args.change.now.after.now)
-    (is_pending (g.A.After.formula c.args.change.now.after.now) (is_in c.args.change.now.outside.now) c.args.marks.now)
+    (is_pending (g.A.After.formula c.args.change.now.after.now) (has_cell c.args.change.now.outside.now) c.args.marks.now)
     (is_frame (g.A.After.formula c.args.change.now.after.now) c.args.marks.now)
     CELLS c.levels.head c.walk.head e k c.walk.left c.walk.level c.walk.order.items) (sym same) j.state in
     let long = c.len-end-in-levels.ensures in
@@ -132,12 +132,12 @@ levels-preserved g c =
     record {
       state = rw last (Levelling-level (g.A.After.refers c.args.change.now.after.now)
           (is_pending (g.A.After.formula c.args.change.now.after.now)
-          (is_in c.args.change.now.outside.now) c.args.marks.now)
+          (has_cell c.args.change.now.outside.now) c.args.marks.now)
           (is_frame (g.A.After.formula c.args.change.now.after.now) c.args.marks.now)
           CELLS
           (g.met.A.After.refers_below c.args.change.now.after.now)
           (frame_pending (g.A.After.formula c.args.change.now.after.now)
-          (is_in c.args.change.now.outside.now) c.args.marks.now)
+          (has_cell c.args.change.now.outside.now) c.args.marks.now)
           (frame_back (g.A.After.refers c.args.change.now.after.now)
           (g.A.After.formula c.args.change.now.after.now) c.args.marks.now
           c.requires.closed (g.met.A.After.refers_formula c.args.change.now.after.now))

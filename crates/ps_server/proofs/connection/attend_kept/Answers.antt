@@ -7,7 +7,7 @@ use Rattle.ps_server.proofs.connection.attend_kept.Goals as goal
 pub returns-clause-covered : goal.returns-clause-covered
 returns-clause-covered g c =
     let told = c.converse-ended.ensures.covered tt in
-    (told.0, told.1, rw (c.leave.ensures, c.leave-2.ensures) (rw c.new-seat.ensures at told.2))
+    (told.0, told.1, rw (c.leave.ensures.pass, c.leave-2.ensures) (rw c.new-seat.ensures at told.2))
 
 pub returns-clause-attended : goal.returns-clause-attended
 returns-clause-attended g c =
@@ -18,4 +18,4 @@ returns-clause-attended g c =
     _ _ _ _ _ _ _ _ _ _ _ c.converse-ended.result told.transcribed told.sink told.source told.keep told.memory in
     let answered : Ran (SeatLines _ _) c.new-seat.result c.converse-ended.new.board =
     ran_covered (SeatLines _ _) _ _ _ _ _ _ _ _ all.2 in
-    attended _ _ c.new-seat.ensures c.leave.ensures on answered
+    attended _ _ c.new-seat.ensures c.leave.ensures.pass on answered

@@ -7,12 +7,13 @@ use Rattle.ps_server.proofs.connection.attend_lines.Goals as goal
 
 pub returns-clause-transcribed : goal.returns-clause-transcribed
 returns-clause-transcribed g c =
-    rw c.leave-pass.ensures (rw (c.new-publisher.ensures.same ∙ c.new-seat.ensures) at c.converse-ended.ensures.transcribed)
+    let same = c.new-publisher.ensures.same ∙ c.new-seat.ensures in
+    rw c.leave-pass.ensures.pass (rw same at c.converse-ended.ensures.transcribed)
 
 pub returns-clause-sink : goal.returns-clause-sink
 returns-clause-sink g c = λ is.
     let told = c.converse-ended.ensures.sink is in
-    rw c.leave-pass.ensures (
+    rw c.leave-pass.ensures.pass (
       told.0,
       told.1,
       elim (told.2) [
@@ -24,14 +25,14 @@ returns-clause-sink g c = λ is.
 pub returns-clause-source : goal.returns-clause-source
 returns-clause-source g c = λ is.
     let told = c.converse-ended.ensures.source is in
-    rw c.leave-pass.ensures (told.0, told.1, rw (c.new-publisher.ensures.same ∙ c.new-seat.ensures) at told.2)
+    rw c.leave-pass.ensures.pass (told.0, told.1, rw (c.new-publisher.ensures.same ∙ c.new-seat.ensures) at told.2)
 
 pub returns-clause-covered : goal.returns-clause-covered
 returns-clause-covered g c =
     let told = c.converse-ended.ensures.covered tt in (
       told.0,
       told.1,
-      rw (c.leave-pass.ensures, c.leave.ensures) (rw (c.new-publisher.ensures.same ∙ c.new-seat.ensures) at told.2),
+      rw (c.leave-pass.ensures.pass, c.leave.ensures) (rw (c.new-publisher.ensures.same ∙ c.new-seat.ensures) at told.2),
     )
 
 pub returns-clause-attended : goal.returns-clause-attended
@@ -43,4 +44,4 @@ returns-clause-attended g c =
     _ _ _ _ _ _ _ _ _ _ _ c.converse-ended.result told.transcribed told.sink told.source told.keep told.memory in
     let answered : Ran (SeatLines _ _) c.new-publisher.new.seat c.converse-ended.new.board =
     ran_covered (SeatLines _ _) _ _ _ _ _ _ _ _ all.2 in
-    attended _ _ (c.new-publisher.ensures.same ∙ c.new-seat.ensures) c.leave-pass.ensures on answered
+    attended _ _ (c.new-publisher.ensures.same ∙ c.new-seat.ensures) c.leave-pass.ensures.pass on answered

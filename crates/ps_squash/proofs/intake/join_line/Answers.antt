@@ -1,34 +1,28 @@
 use Rattle.std.proofs.Common.{[], ◌∷◌, Some, ap, subst, sym, ◌∙◌}
-use Rattle.ps_delta.specs.State.{joined_state, state_at}
-use Rattle.ps_delta.proofs.HistoryLemmas.{joined_history-nil, joined_history-one}
-use Rattle.ps_delta.proofs.StateLemmas.{joined_state-empty_right}
-use Rattle.ps_squash.specs.Inside.{IsRead}
+use Rattle.ps_delta.specs.State.{state_at}
+use Rattle.ps_squash.specs.Inside.{IsRead, sum_of}
+use Rattle.ps_squash.proofs.SelectLemmas.{after_none}
 use Rattle.ps_squash.proofs.intake.join_line.Goals as goal
 
 pub returns-in-None-clause-joined : goal.returns-in-None-clause-joined
-returns-in-None-clause-joined c =
-    let s = state_at c.args.state.now in (
-      [],
-      subst (IsRead c.args.line.now) c.in-None.is c.in_ok-read_line.ensures.read,
-      sym (ap (joined_state s) joined_history-nil ∙ joined_state-empty_right s),
-    )
+returns-in-None-clause-joined c = (
+  [],
+  subst (IsRead c.args.line.now) c.in-None.is c.in_ok-read_line.ensures.read,
+  sym (after_none (sum_of (state_at c.args.taken.now.state) c.args.taken.now.still)),
+)
 
 pub returns-in-Some-Replica-clause-joined : goal.returns-in-Some-Replica-clause-joined
-returns-in-Some-Replica-clause-joined c =
-    let s = state_at c.args.state.now in (
-      [],
-      subst (IsRead c.args.line.now) (c.in-Some-Replica.is ∙ ap Some c.in-Some-Replica.field-0-is)
-          c.in_ok-read_line.ensures.read,
-      sym (ap (joined_state s) joined_history-nil ∙ joined_state-empty_right s),
-    )
+returns-in-Some-Replica-clause-joined c = (
+  [],
+  subst (IsRead c.args.line.now) (c.in-Some-Replica.is ∙ ap Some c.in-Some-Replica.field-0-is)
+      c.in_ok-read_line.ensures.read,
+  sym (after_none (sum_of (state_at c.args.taken.now.state) c.args.taken.now.still)),
+)
 
-pub returns-in_ok-join-in-Some-Push-clause-joined : goal.returns-in_ok-join-in-Some-Push-clause-joined
-returns-in_ok-join-in-Some-Push-clause-joined c =
-    let s = state_at c.args.state.now in
-    let d = c.in-Some-Push.delta in (
-      d ∷ [],
-      subst (IsRead c.args.line.now) (c.in-Some-Push.is ∙ ap Some c.in-Some-Push.field-0-is)
-          c.in_ok-read_line.ensures.read,
-      c.in_ok-join-in-Some-Push.ensures.ok
-          ∙ ap (joined_state s) (sym (joined_history-one d)),
-    )
+pub returns-in_ok-add-in-Some-Push-clause-joined : goal.returns-in_ok-add-in-Some-Push-clause-joined
+returns-in_ok-add-in-Some-Push-clause-joined c = (
+  c.in-Some-Push.delta ∷ [],
+  subst (IsRead c.args.line.now) (c.in-Some-Push.is ∙ ap Some c.in-Some-Push.field-0-is)
+      c.in_ok-read_line.ensures.read,
+  c.in_ok-add-in-Some-Push.ensures.joined,
+)

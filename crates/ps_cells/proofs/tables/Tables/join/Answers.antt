@@ -55,14 +55,14 @@ recalculate-requires-clause-may g c κs within =
 
 pub recalculate-requires-clause-touched : goal.recalculate-requires-clause-touched
 recalculate-requires-clause-touched g c κs within = λ apart.
-    c.deref-2.ensures.value
+    c.deref.ensures.value
     ∙ (c.in_ok-how.ensures.touched apart
     ∙ sym (first_cells
     (firsts_by c.in_ok-how.how c.begin.new.lists.first.items) c.begin.new.lists.states.items c.in_ok-how.ensures.first))
 
 pub recalculate-requires-clause-alone : goal.recalculate-requires-clause-alone
 recalculate-requires-clause-alone g c κs within = λ are. (
-  sym c.deref.ensures.value ∙ (c.in_ok-how.ensures.alone are).0,
+  (c.in_ok-how.ensures.alone are).0,
   first_alone (state_at c.args.self.now.grid) (state_at c.exchange.new.self) (listed c.begin.new.index)
       c.begin.new.lists.states.items (firsts_by c.in_ok-how.how c.begin.new.lists.first.items)
       c.in_ok-how.ensures.changes.ascending

@@ -1,8 +1,4 @@
 use Rattle.std.proofs.Common.{◌≡◌, ◌⊎◌, ◌≤◌, ◌+◌, ℕ, Bool, List, [], true, map, length, refl, sym, ap, ◌∙◌, subst}
-use Rattle.std.proofs.Common.{not, filter}
-use Rattle.std.specs.Prelude.{nat_eq}
-use Rattle.std.specs.List.{list_any}
-use Rattle.std.proofs.Common.{arith}
 use Rattle.std.specs.Vec.{with_items}
 use Rattle.std.proofs.lemmas.List.{with_items_is}
 use Rattle.ps_grid.specs.Chains.{In, InRegion, IsDepth}
@@ -13,13 +9,11 @@ use Rattle.ps_shown.specs.declared.kept.Kept.{Kept}
 use Rattle.ps_shown.specs.Shown.{shown_at}
 use Rattle.ps_cells.specs.Settled.{refers_to, Cyclic}
 use Rattle.ps_cells.specs.Inside.Steps.{flag_at}
-use Rattle.ps_cells.specs.Inside.Walk.{formula_at, Begun, ListsCyclic, IsCount, InFrame, IsPassed, Walked}
-use Rattle.ps_cells.specs.Inside.Screens.{ShowCycle}
-use Rattle.ps_cells.proofs.CyclicOlds.{listed_cycle}
+use Rattle.ps_cells.specs.Inside.Walk.{formula_at, Begun, IsCount, InFrame, IsPassed, Walked}
 use Rattle.ps_cells.proofs.FirstValues.{begun_start}
 use Rattle.ps_cells.proofs.FoundLevels.{walked_flags, walked_settled, walked_counted, cyclic_counted}
 use Rattle.ps_cells.proofs.Recalculations.{may_walk, levels_found}
-use Rattle.ps_cells.proofs.Recalculations.{walked_now, cyclic_now, cyclic_room}
+use Rattle.ps_cells.proofs.Recalculations.{walked_now, cyclic_now}
 use Rattle.ps_cells.proofs.Recalculations.{deepest_now, reached_now}
 use Rattle.ps_cells.proofs.tables.Tables.recalculate_region.Given.{Over}
 use Rattle.ps_cells.proofs.tables.Tables.recalculate_region.Goals as goal
@@ -30,18 +24,9 @@ find_region-requires-clause-change g c = (
   c.requires.before,
   shown_at c.args.self.now.shown.kept,
   c.requires.change,
-  subst (ListsCyclic c.requires.before) (sym c.deref.ensures.value) c.requires.tidy.cyclic,
+  c.requires.tidy.cyclic,
   c.requires.tidy.region,
 )
-
-pub meets_cyclic-met-requires : goal.meets_cyclic-met-requires
-meets_cyclic-met-requires g c =
-    let v = shown_at c.args.self.now.shown.kept in
-    record {
-      listed = subst (λ (xs : List ℕ). ShowCycle v v xs) (sym c.deref-2.ensures.value)
-          (listed_cycle c.requires.before v c.args.self.now.cyclic.items c.requires.change.settled
-          c.requires.tidy.cyclic);
-    }
 
 -- what is known of the region
 found : (g : Over) (c : After-settle_frame-arg-4-1 g)
@@ -131,22 +116,6 @@ clear-requires-clause-within g c = λ q on.
     c.settle_frame-evaluated.result (walked g c) f.members now.region_sound now.region_complete q
     (subst (λ (xs : List Bool). flag_at xs q ≡ true) (flags_last g c) on))
 
-pub renew-requires : goal.renew-requires
-renew-requires g c =
-    let t = state_at c.args.self.now.grid in
-    let v = shown_at c.args.self.now.shown.kept in
-    let touched = c.args.touched.now in
-    let f = c.find_region.new.region in
-    let now = c.find_region.ensures.found in
-    let few = cyclic_room c.requires.before t v touched c.requires.change c.requires.inside f now
-    c.args.self.now.cyclic.items c.requires.tidy.cyclic in
-    let room = c.requires.tidy.room in
-    record {
-      unmet = λ off. subst (λ (xs : List ℕ). filter (λ q. not (list_any (nat_eq q) f.members)) xs ≡ xs)
-          c.deref-2.ensures.value (c.meets_cyclic-met.ensures off);
-      room = omega (arith, few, room);
-    }
-
 pub returns-clause-done : goal.returns-clause-done
 returns-clause-done g c =
     let t = state_at c.args.self.now.grid in
@@ -167,8 +136,6 @@ returns-clause-done g c =
     let flags3 = flag_at c.settle_frame-evaluated.new.flags in
     let n = c.settle_frame-evaluated.result in
     let top = sym c.levels.ensures in
-    let old_room = c.requires.tidy.room in
-    let new_room = c.renew.ensures.room in
     record {
       grid = refl;
       index = refl;
@@ -177,10 +144,8 @@ returns-clause-done g c =
           u3 flags3 n
           w f.members now.region_sound now.region_complete;
       tidy = record {
-        cyclic = subst (λ (xs : List ℕ). ListsCyclic t xs) (sym c.renew.ensures.items)
-            (cyclic_now c.requires.before t v touched c.requires.change c.requires.inside f now
-            c.args.self.now.cyclic.items c.requires.tidy.cyclic);
-        room = omega (arith, old_room, new_room);
+        cyclic = cyclic_now c.requires.before t v touched c.requires.change c.requires.inside f now
+            c.args.self.now.cyclic c.renew.new.cyclic c.requires.tidy.cyclic c.renew.ensures;
         length = ap length clean ∙ c.clear.auto.flags ∙ ap length last ∙ c.settle_frame-evaluated.auto.flags
             ∙ ap length first ∙ c.show_all_first.auto.flags ∙ ap length c.deref_mut.ensures.value
             ∙ c.requires.tidy.length;

@@ -39,8 +39,8 @@ returns-clause-stands g c =
     at_staged (λ (p : StagedView). IsDeltaOf x.replica (joined_history x.history) c.args.change p.delta) y.staged
     c.in_ok-_report.ensures.delta in
     let lent = at_staged (λ (p : StagedView). c.delta.result.now ≡ p.delta) y.staged c.delta.ensures.delta in
-    rw c.note_shown.ensures (stands_change g.L.DeskName.replica g.L.Named.opening c.args.change (change_in y) c.finish-standing.result old mid
-    c.finish-standing.new.pass.list (caught_later list old mid c.catch_up.ensures.later c.catch_up.ensures.pass)
+    rw c.note_shown.ensures (stands_change g.L.DeskName.replica g.L.Named.opening c.args.change (change_in y)
+    c.finish-standing.result old mid c.finish-standing.new.pass.list (caught_later list old mid c.catch_up.ensures.later c.catch_up.ensures.pass)
     (caught_seat list old mid c.catch_up.ensures.pass)
     (subst IsDelta (c.parts.ensures.value ∙ lent) c.parts.ensures.delta)
     (subst (λ (z : ℕ × List Entries). IsDeltaOf z.0 (joined_history z.1) c.args.change (staged_in y).delta)

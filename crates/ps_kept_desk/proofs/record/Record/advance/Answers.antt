@@ -13,7 +13,7 @@ invariant_of-self g c =
       seen = c.self.inside.seen;
       noted = c.self.inside.noted;
     } in
-    (c.self.invariant.0, seen_later _ g.L.Named.opening v c.self.invariant.1 c.later.new.place c.later.ensures.later)
+    (c.self.invariant.0, seen_later _ g.L.Named.opening v c.self.invariant.1 c.later.new.position c.later.ensures.later)
 
 pub invariant_of-self-in-Err : goal.invariant_of-self-in-Err
 invariant_of-self-in-Err g c =
@@ -23,7 +23,7 @@ invariant_of-self-in-Err g c =
       seen = c.self.inside.seen;
       noted = c.self.inside.noted;
     } in
-    (c.self.invariant.0, seen_later _ g.L.Named.opening v c.self.invariant.1 c.later.new.place c.later.ensures.later)
+    (c.self.invariant.0, seen_later _ g.L.Named.opening v c.self.invariant.1 c.later.new.position c.later.ensures.later)
 
 pub returns-in-Ok-clause-later : goal.returns-in-Ok-clause-later
 returns-in-Ok-clause-later g c =
@@ -34,6 +34,6 @@ returns-in-Ok-clause-later g c =
       noted = c.self.inside.noted;
     } in
     subst (λ (w : RecordView). IsPrefix w.kept c.add.new.self.kept) c.self.view_is
-    (kept_later c.add.result v.kept c.later.new.place c.add.new.self.kept
-    (begins_trans v.kept v.seen c.later.new.place c.self.invariant.1.later c.later.ensures.later) c.add.ensures.all
+    (kept_later c.add.result v.kept c.later.new.position c.add.new.self.kept
+    (begins_trans v.kept v.seen c.later.new.position c.self.invariant.1.later c.later.ensures.later) c.add.ensures.all
     c.add.ensures.not_yet)

@@ -16,7 +16,7 @@ invariant_of-self g c =
       noted = c.self.inside.noted;
     } in (
       c.self.invariant.0,
-      seen_later _ g.L.Named.opening v c.self.invariant.1 c.close_at-sheet.new.place c.close_at-sheet.ensures.later,
+      seen_later _ g.L.Named.opening v c.self.invariant.1 c.close_at-sheet.new.position c.close_at-sheet.ensures.later,
     )
 
 pub returns-clause-told : goal.returns-clause-told

@@ -6,7 +6,7 @@ use Rattle.ps_grid.specs.Chains.{In}
 use Rattle.ps_grid.specs.declared.size.TheConstants.{CELLS}
 use Rattle.ps_grid.proofs.RegionLemmas.{InRegion-touched}
 use Rattle.ps_region.specs.Inside.Cells.{Marked}
-use Rattle.ps_region.specs.Inside.Counts.{is_in}
+use Rattle.ps_region.specs.CellSets.{has_cell}
 use Rattle.ps_region.proofs.CellListLemmas.{marked_le}
 use Rattle.ps_region.proofs.CountLemmas.{and_true_left}
 use Rattle.ps_region.proofs.FoundLemmas.{is_found}
@@ -68,7 +68,7 @@ assign_levels-requires-clause-starting g c =
     let same = formula_cells refers formula c.note_touched.new.plain c.args.touched.now members
     (g.met.A.After.refers_formula c.args.after.now) c.note_touched.ensures.plain c.grow.ensures.sound
     (λ q. get_or left q 0 == 0) in
-    starting refers formula (is_in c.args.cyclic.now)
+    starting refers formula (has_cell c.args.cyclic.now)
     c.grow.new.marks members left c.first_level.new.level c.first_level.new.order.items CELLS size
     (g.met.A.After.refers_below c.args.after.now)
     (g.met.A.After.refers_formula c.args.after.now)
@@ -139,7 +139,7 @@ returns g c =
     c.deref_mut-left.ensures.len c.deref_mut-left.ensures.value c.fill-4.ensures.length in
     record {
       found = rw (left.0, plain.0)
-          (is_found (g.A.After.refers c.args.after.now) (g.A.After.formula c.args.after.now) (is_in c.args.cyclic.now)
+          (is_found (g.A.After.refers c.args.after.now) (g.A.After.formula c.args.after.now) (has_cell c.args.cyclic.now)
           c.args.touched.now
           c.grow.new.members.items c.grow.new.marks CELLS
           (g.met.A.After.refers_below c.args.after.now)

@@ -1,0 +1,91 @@
+//! The command `join --check`: says whether two replicas hold the same.
+ghost use Rattle.std.specs.Prelude.{◌≡◌, ◌⊎◌, ◌<◌, ℕ, List, [], IfErr, IfOk, OnOk};
+ghost use Rattle.std.specs.Io.KnownBytes.{Appends};
+ghost use Rattle.ps_grid.specs.Blanks.{IsBlankOf};
+ghost use Rattle.ps_grid.specs.declared.refusal.Refusal.TheVariants as Refusal;
+ghost use Rattle.ps_step.specs.Steps.{step_text};
+ghost use Rattle.ps_commands.specs.Checks.{AreCompared, IsCheckFault, step_status};
+ghost use Rattle.ps_commands.specs.Status.{HasNoPort};
+ghost use Rattle.ps_commands.specs.declared.fault.ProgramFault.TheVariants.{Refused};
+
+use crate::ends::open_ends;
+use crate::fault::ProgramFault;
+use crate::notice::tell_whole;
+use crate::peers::{PeerStream, peer_of};
+use ps_device::Sink;
+use ps_step::{Step, compare};
+use ps_words::JoinOptions;
+use std::alloc::Global;
+use std::marker::Brand;
+use std::net::{Net, TcpStream};
+use std::sync::ledger::Ledger;
+
+/// The exit status where two replicas differ.
+const OUT_OF_STEP: u8 = 3;
+
+/// Compares what the peers of two streams hold.
+fn compare_streams<I: Ledger, O: Ledger, J: Ledger, P: Ledger>(
+    alloc: Global,
+    first: PeerStream<'_>,
+    second: PeerStream<'_>,
+) -> Result<Step, ProgramFault>
+    requires first_input { IsBlankOf first.input I.name I.parts }
+    requires first_output { IsBlankOf first.output O.name O.parts }
+    requires second_input { IsBlankOf second.input J.name J.parts }
+    requires second_output { IsBlankOf second.output P.name P.parts }
+    ensures compared { IfOk result (λ step. AreCompared step.from step.to step.apart.items) }
+    ensures stopped { IfErr result (λ f. (f ≡ Refused Refusal.Memory) ⊎ IsCheckFault f) }
+{
+    let mut from = peer_of::<I, O>(alloc, first)?;
+    let mut to = peer_of::<J, P>(alloc, second)?;
+    match compare(alloc, &mut from, &mut to) {
+        Ok(step) => Ok(step),
+        Err(fault) => Err(ProgramFault::from(fault)),
+    }
+}
+
+/// Returns the exit status of what was found: 0 if both replicas hold the same, else 3.
+fn status_of_step(step: &Step) -> u8
+    ensures { result ≡ step_status step.now.apart.items }
+{
+    if step.is_even() { 0 } else { OUT_OF_STEP }
+}
+
+/// Compares what the replicas at two ports hold, and returns the exit status: 0 if it is the same, else 3.
+///
+/// It connects to `from` of `options` first, then to `to`; both are ports of this machine. It asks each for all of its
+/// changes, and for nothing else. At the end it writes `in step at` and the versions, or `differ` and the cells.
+///
+/// # Errors
+///
+/// - [`ProgramFault::PortFailed`] if a port can't be connected to.
+/// - `Device` if a connection or `out` fails.
+/// - Otherwise those of [`compare`].
+///
+/// Cost: that of [`compare`], and 0.8 MB of memory.
+pub fn check_on<R: Net<Stream = TcpStream>, K: Sink>(
+    rt: &R,
+    alloc: Global,
+    options: JoinOptions,
+    out: &mut K,
+) -> Result<u8, ProgramFault>
+    ensures told { IfOk result (λ status. (from : ℕ) × (to : ℕ) × (cells : List ℕ) × AreCompared from to cells
+        × Appends (K.contents out.old) (K.contents out.new) (step_text from to cells)
+        × (status ≡ step_status cells)) }
+    ensures flushed { OnOk result (K.waiting out.new ≡ []) }
+    ensures calm { OnOk result (K.failures out.new ≡ K.failures out.old) }
+    ensures untold { IfErr result (λ f. (out.new ≡ out.old)
+        ⊎ ((f ≡ Refused Refusal.Device) × (K.failures out.old < K.failures out.new))) }
+    ensures stopped { IfErr result (λ f. HasNoPort options.from f ⊎ HasNoPort options.to f
+        ⊎ (f ≡ Refused Refusal.Memory) ⊎ IsCheckFault f ⊎ (K.failures out.old < K.failures out.new)) }
+{
+    let ends = open_ends(rt, options)?;
+    let step = compare_streams::<Brand, Brand, Brand, Brand>(
+        alloc,
+        PeerStream::new(&ends.from.stream),
+        PeerStream::new(&ends.to.stream),
+    )?;
+    let line = step.line(alloc)?;
+    tell_whole(&line, out)?;
+    Ok(status_of_step(&step))
+}

@@ -1,0 +1,94 @@
+//! A position up to which a desk's changes are shown.
+
+ghost use Rattle.std.specs.Prelude.{◌≡◌, ◌<◌, ◌≤◌, length, IfNone, IfSome, MatchBool};
+ghost use mathlib.Core.List.{IsPrefix};
+ghost use Rattle.ps_face.specs.Legal.{IsLegal};
+
+use crate::name::DeskName;
+use crate::position::Position;
+use ps_face::ShownPrefix;
+use std::marker::Model;
+use std::sync::Wait;
+
+/// A token for a beginning of the published list of a desk that is shown to all readers. A contract sees it as that
+/// list.
+///
+/// Only a look at the published copies makes one, or a call of the desk that shows waiting changes.
+#[derive(Drop)]
+pub struct ShownPosition<L: DeskName> {
+    position: Position<L>,
+}
+
+impl<L: DeskName> Model for ShownPosition<L> {
+    ghost use Rattle.std.specs.Prelude.{List};
+    ghost use Rattle.std.specs.Coded.{codes};
+    ghost use Rattle.ps_face.specs.declared.patch.Note.{Note};
+    ghost use Rattle.ps_face.specs.contracts.patch.Note as note;
+
+    ghost Value = { List Note };
+
+    ghost coded = { Prim.hlevel (codes, note.the_row.coded) };
+
+    ghost view = { λ s. s.position };
+}
+
+impl<L: DeskName> ShownPosition<L> {
+    /// Creates the token for what is shown.
+    pub(crate) fn new(shown: &ShownPrefix) -> ShownPosition<L>
+        requires book { shown.now.book ≡ L.book }
+        requires legal { IsLegal L.opening shown.now.list }
+        ensures { result ≡ shown.now.list }
+    {
+        ShownPosition {
+            position: Position::new(shown.front().again()),
+        }
+    }
+
+    /// Returns a second token for the same beginning.
+    pub fn again(&self) -> ShownPosition<L>
+        ensures { result ≡ self.now }
+    {
+        ShownPosition {
+            position: self.position.again(),
+        }
+    }
+
+    /// Returns the position where it ends.
+    pub fn position(&self) -> &Position<L>
+        ensures { result.now ≡ self.now }
+    {
+        &self.position
+    }
+
+    /// Returns whether the list is shown up to this position.
+    pub fn has(&self, position: &Position<L>) -> bool
+        ensures { MatchBool result
+            (IsPrefix position.now self.now × (length position.now ≤ length self.now))
+            (length self.now < length position.now) }
+    {
+        position.begins(&self.position)
+    }
+
+    /// Returns the token for the list up to a position, if that is shown.
+    pub(crate) fn part(&self, position: Position<L>) -> Option<ShownPosition<L>>
+        ensures shown { IfSome result (λ part. part ≡ position) }
+        ensures longer { IfNone result (length self.now < length position) }
+    {
+        if self.has(&position) {
+            return Some(ShownPosition { position });
+        }
+        None
+    }
+
+    /// Moves to the end of what is shown now. No run meets a token beyond it: the call would wait for ever.
+    pub(crate) fn catch_up<V: Wait>(&mut self, wait: &V, now: ShownPosition<L>)
+        ensures later { IsPrefix self.old now }
+        ensures all { self.new ≡ now }
+    {
+        if !now.has(&self.position) {
+            for _ in wait.forever() {}
+            unreachable!()
+        }
+        *self = now;
+    }
+}

@@ -1,0 +1,2 @@
+mod ApartLemmas
+mod PullLemmas

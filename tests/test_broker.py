@@ -1,0 +1,179 @@
+"""The recipes of `docs/USING.md` over a broker: servers that know nothing of each other, at a real broker each time."""
+import contextlib
+import os
+import re
+import shutil
+import signal
+import socket
+import subprocess
+import time
+
+from pages import indented
+from program import LIMIT, NO_BROKER, SHEET, TOP, ProgramTest
+from servers import HERE, comes_to, free_port, serving
+
+# The blocks of the page: the broker's file, what each machine runs at MQTT, how one asks, and what each runs at Redis.
+BLOCKS = indented((TOP / "docs/USING.md").read_text(), "## More machines: a broker")
+# How soon all have all, in seconds, once a line has reached the broker.
+IN_STEP = 15
+
+
+def with_these(folder):
+    """The environment in which the programs of this folder are found first."""
+    return {**os.environ, "PATH": f"{folder}:{os.environ['PATH']}"}
+
+
+class Machine:
+    """A server, and what runs beside it."""
+
+    def __init__(self, number, server, folder):
+        self.number, self.server, self.folder = number, server, folder
+        self.client = server.client()
+        self.count = 0
+        self.beside = None
+
+    def edit(self):
+        """Types an entry into a cell of its own, and adds one to the counter of all."""
+        self.count += 1
+        said = [self.client.ask(line) for line in (f"set A{self.number} {self.count}", "set B1 @tally", "add B1 1")]
+        return all(reply.startswith("ok ") for reply in said)
+
+    def shown(self):
+        """What it shows."""
+        self.client.send(b"rows A1:B4\n")
+        head = self.client.reply()
+        return [head, *(self.client.reply() for _ in range(int(head.split()[1])))]
+
+    def run(self, commands):
+        """Runs the commands of the page beside the server."""
+        with open(self.folder / f"log{self.number}", "ab") as log:
+            how = {"cwd": self.folder, "stdin": subprocess.DEVNULL, "stdout": log, "stderr": log, "start_new_session": True}
+            commands = re.sub(r"\b7001\b", str(self.server.port), commands)
+            self.beside = subprocess.Popen(["bash", "-c", f"{commands}\nwait"], env=with_these(self.folder), **how)
+
+    def halt(self):
+        """Ends these commands."""
+        if self.beside is not None:
+            with contextlib.suppress(ProcessLookupError):
+                os.killpg(self.beside.pid, signal.SIGKILL)
+            self.beside.wait(LIMIT)
+
+
+class BrokerTest(ProgramTest):
+    """A test over a broker, with programs that ask it, and how it is started: the program's words."""
+
+    programs, broker = (), ()
+
+    def setUp(self):
+        if any(shutil.which(program) is None for program in (*self.programs, self.broker[0])):
+            self.skipTest(NO_BROKER)
+        self.place, self.port = self.folder(), free_port()
+        os.symlink(SHEET, self.place / "sheet")
+        for program in self.programs:
+            # (the page has the broker at its usual port)
+            file = self.place / program
+            file.write_text(f'#!/bin/sh\nexec {shutil.which(program)} -p {self.port} "$@"\n')
+            file.chmod(0o755)
+        self.running, self.machines = None, []
+        self.open = self.enterContext(contextlib.ExitStack())
+        self.addCleanup(self.stop_broker)
+        self.start_broker()
+
+    def start_broker(self):
+        """Starts the broker, and waits until it listens."""
+        self.log = self.place / "broker.log"
+        with open(self.log, "wb") as log:
+            how = {"cwd": self.place, "stdin": subprocess.DEVNULL, "stdout": log, "stderr": subprocess.STDOUT}
+            self.running = subprocess.Popen([word.replace("PORT", str(self.port)) for word in self.broker], **how)
+        self.assertTrue(comes_to(self.is_listening), self.log.read_text())
+
+    def is_listening(self):
+        """Whether the broker takes connections."""
+        with socket.socket() as look:
+            return look.connect_ex((HERE, self.port)) == 0
+
+    def stop_broker(self):
+        """Kills the broker."""
+        if self.running is not None:
+            self.running.kill()
+            self.running.wait(LIMIT)
+
+    def machine(self, commands):
+        """One more machine, which runs these commands."""
+        number = len(self.machines) + 1
+        words = ("--replica", str(number), "--keep", str(self.place / f"plan{number}.lines"))
+        server = self.open.enter_context(serving(None, *words))
+        made = Machine(number, server, self.place)
+        self.open.callback(made.halt)
+        self.machines.append(made)
+        made.run(commands)
+
+    def assert_in_step(self):
+        """All show what all typed, soon."""
+        typed = [machine.count for machine in self.machines]
+        rows = [f"{count or ''},{sum(typed) if row == 0 else ''}" for row, count in enumerate(typed + [0] * (4 - len(typed)))]
+        wanted = ["rows 4", *rows]
+        begun = time.monotonic()
+        for machine in self.machines:
+            left = max(0.1, IN_STEP - (time.monotonic() - begun))
+            if not comes_to(lambda: machine.shown() == wanted, left):
+                self.assertEqual(machine.shown(), wanted, (self.place / f"log{machine.number}").read_text())
+
+
+class Mqtt(BrokerTest):
+    programs, broker = ("mosquitto_sub", "mosquitto_pub"), ("mosquitto", "-v", "-c", "broker.conf")
+
+    def start_broker(self):
+        (self.place / "broker.conf").write_text(BLOCKS[0].replace("1883", str(self.port)))
+        super().start_broker()
+
+    def wait_for(self, machines):
+        """Waits until so many machines are at the broker, with the two that listen of each."""
+        self.assertTrue(comes_to(lambda: self.log.read_text().count("Sending SUBACK") >= 2 * machines), self.log.read_text())
+
+    def ask(self):
+        """Asks for all that the replicas have, as the page says."""
+        subprocess.run(["bash", "-c", BLOCKS[2]], env=with_these(self.place), check=True, timeout=LIMIT)
+
+    def test_three_machines_a_new_one_and_a_broker_that_is_killed(self):
+        for _ in range(3):
+            self.machine(BLOCKS[1])
+        self.wait_for(3)
+        for machine in self.machines:
+            self.assertTrue(machine.edit())
+        self.assert_in_step()
+        self.machine(BLOCKS[1])
+        self.wait_for(4)
+        self.ask()
+        self.assert_in_step()
+        self.stop_broker()
+        for machine in self.machines:
+            self.assertTrue(machine.edit())
+        self.start_broker()
+        self.wait_for(4)
+        self.ask()
+        self.assert_in_step()
+
+
+class Redis(BrokerTest):
+    programs = ("redis-cli",)
+    broker = ("redis-server", "--port", "PORT", "--bind", HERE, "--save", "", "--appendonly", "no")
+
+    def test_three_machines_a_new_one_and_a_broker_that_is_killed(self):
+        for _ in range(3):
+            self.machine(BLOCKS[3])
+        for machine in self.machines:
+            self.assertTrue(machine.edit())
+        self.assert_in_step()
+        self.machine(BLOCKS[3])
+        self.assertTrue(self.machines[3].edit())
+        self.assert_in_step()
+        # what the stream had is lost with it
+        self.stop_broker()
+        for machine in self.machines:
+            self.assertTrue(machine.edit())
+        self.start_broker()
+        for machine in self.machines:
+            machine.halt()
+            machine.run(BLOCKS[3])
+        self.assert_in_step()
