@@ -8,13 +8,17 @@ Tests that want a browser or a broker are left out where there is none, and by `
 the tests of the crates, which `rt ci` builds: then `, K skipped` follows.
 `./test --hunt MINUTES` looks for trouble by chance (`hunt/`, `docs/TESTING.md`), and ends in the same way.
 `./test --list` runs nothing. It prints what each test shows, and the function whose proof each mutant has to break.
+All tests of the program run file by file, each in a process of its own and some side by side.
 """
 import os
 import re
+import resource
 import subprocess
 import sys
+import time
 import traceback
 import unittest
+from concurrent.futures import ThreadPoolExecutor
 from typing import NamedTuple
 
 import compared
@@ -24,6 +28,8 @@ from wrong import Fault
 
 # The tests of worked rows and of starts, which are also run on the program that the kit links.
 ROWS = ("test_start", "test_transcripts")
+# The files of tests that measure time, which run one after the other once all others have ended.
+ALONE = ("test_page_first", "test_wait")
 USAGE = (
     "usage: ./test, or ./test --program [TEXT], or ./test --wrong [CRATE], or ./test --list,"
     " or ./test --hunt MINUTES [--seed NUMBER]"
@@ -143,6 +149,30 @@ def released():
     return Tally(1, 0)
 
 
+class Process(NamedTuple):
+    """How a process of tests ended: what it said but for its counts, and these; a fault where it said none."""
+
+    said: str
+    tally: Tally
+
+    def counted(self, reasons):
+        """Its counts, with those that were left out as failed where it was for another reason than these."""
+        found = re.findall(r"^test: \d+ tests were skipped, since (.+)$", self.said, re.MULTILINE)
+        passed, failed, skipped = self.tally
+        return self.tally if all(reason in reasons for reason in found) else Tally(passed, failed + skipped)
+
+
+def in_process(text, program=None):
+    """Runs the tests whose names have the text in a process of their own, on this program where one is given."""
+    words = [sys.executable, "-B", TOP / "tests", "--program", text]
+    environment = os.environ if program is None else {**os.environ, "SHEET_PROGRAM": str(program)}
+    ran = subprocess.run(words, stdin=subprocess.DEVNULL, stdout=subprocess.PIPE, text=True, env=environment)
+    counts = re.search(r"^(\d+) passed, (\d+) failed(?:, (\d+) skipped)?\n\Z", ran.stdout, re.MULTILINE)
+    if counts is None:
+        return Process(f"{ran.stdout}test: {text} ended with status {ran.returncode}\n", Tally(0, 1))
+    return Process(ran.stdout[: counts.start()], Tally(*map(int, counts.groups("0"))))
+
+
 def rows_of_proved():
     """Runs the tests of worked rows and of starts on the program that the kit has linked."""
     tally = Tally(0, 0)
@@ -152,14 +182,9 @@ def rows_of_proved():
         if not linked.is_file():
             tally = tally.and_also(failed("the proved program isn't built, so it wasn't tested"))
             continue
-        words = [sys.executable, "-B", TOP / "tests", "--program", text]
-        environment = {**os.environ, "SHEET_PROGRAM": str(linked)}
-        ran = subprocess.run(words, stdin=subprocess.DEVNULL, stdout=subprocess.PIPE, text=True, env=environment)
-        # (all but its last line, which has its counts)
-        print(*ran.stdout.splitlines()[:-1], sep="\n", flush=True)
-        counts = re.search(r"(\d+) passed, (\d+) failed(?:, (\d+) skipped)?\n$", ran.stdout)
-        ended = failed(f"{text} ended with status {ran.returncode}") if counts is None else Tally(*map(int, counts.groups("0")))
-        tally = tally.and_also(ended)
+        ended = in_process(text, linked)
+        print(ended.said, end="", flush=True)
+        tally = tally.and_also(ended.tally)
     return tally
 
 
@@ -177,9 +202,13 @@ def program(text, reasons):
     # (another program is there already, however new the sources are)
     if "SHEET_PROGRAM" not in os.environ and not is_built():
         return failed("the program isn't built, so it wasn't tested")
+    if not text:
+        return file_by_file(reasons)
     loader = unittest.TestLoader()
     loader.testNamePatterns = [f"*{text}*"]
-    tests = loader.discover(str(TOP / "tests"))
+    # (the others needn't be read where these are all of a file)
+    is_file = text.endswith(".") and (TOP / f"tests/{text}py").is_file()
+    tests = loader.discover(str(TOP / "tests"), f"{text}py" if is_file else "test*.py")
     if tests.countTestCases() == 0:
         return failed("there is no such test of the program")
     shown = Shown(reasons)
@@ -188,6 +217,43 @@ def program(text, reasons):
         if count:
             print(f"test: {count} tests were skipped, since {reason}", flush=True)
     return shown.tally
+
+
+def file_by_file(reasons):
+    """Runs all tests of this folder, so many files at a time that the processors have work while some tests wait."""
+    tally = Tally(0, 0)
+    files = sorted((TOP / "tests").glob("test_*.py"), key=lambda file: (file.stem in ALONE, -file.stat().st_size, file.stem))
+    texts = [f"{file.stem}." for file in files]
+    beside = sum(file.stem not in ALONE for file in files)
+    for lanes, part in ((len(os.sched_getaffinity(0)) + 1, texts[:beside]), (1, texts[beside:])):
+        with ThreadPoolExecutor(lanes) as pool:
+            for text, ended in zip(part, pool.map(in_process, part)):
+                print(ended.said, end="", flush=True)
+                tally = tally.and_also(ended.counted(reasons))
+    return tally
+
+
+def timed(name, call, *given):
+    """Has this call count, and shows what it took."""
+    def used():
+        children = resource.getrusage(resource.RUSAGE_CHILDREN)
+        return children.ru_utime + children.ru_stime
+
+    begun, before = time.monotonic(), used()
+    tally = call(*given)
+    minutes, processor = (time.monotonic() - begun) / 60, (used() - before) / 60
+    print(f"test: {name} took {minutes:.1f} minutes by the clock, {processor:.1f} of processors", flush=True)
+    return tally
+
+
+def whole():
+    """Runs everything."""
+    tally = timed("the gate", gate)
+    tally = tally.and_also(timed("the mutants", refused))
+    tally = tally.and_also(timed("the released object", released))
+    # (the gate has built the tests of the crates)
+    tally = tally.and_also(timed("the program", program, "", (NO_BROKER, NO_BROWSER)))
+    return tally.and_also(timed("the proved program", rows_of_proved))
 
 
 def main(words):
@@ -207,17 +273,13 @@ def main(words):
     if words[:1] not in ([], ["--program"], ["--wrong"]) or len(words) > 2:
         print(USAGE, file=sys.stderr)
         return 2
-    tally = Tally(0, 0) if words else gate()
-    if words[:1] != ["--program"]:
-        tally = tally.and_also(refused("".join(words[1:])))
+    named = "".join(words[1:])
     if not words:
-        tally = tally.and_also(released())
-    if words[:1] != ["--wrong"]:
-        # (the gate has built the tests of the crates)
-        reasons = (NO_BROKER, NO_BROWSER, NO_GIT, NO_TESTS) if words else (NO_BROKER, NO_BROWSER)
-        tally = tally.and_also(program("".join(words[1:]), reasons))
-    if not words:
-        tally = tally.and_also(rows_of_proved())
+        tally = timed("everything", whole)
+    elif words[0] == "--wrong":
+        tally = refused(named)
+    else:
+        tally = program(named, (NO_BROKER, NO_BROWSER, NO_GIT, NO_TESTS))
     print(tally)
     return 1 if tally.failed else 0
 

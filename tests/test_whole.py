@@ -1,5 +1,6 @@
 """The whole test: what `./test` counts and how it ends, with a stand-in for the merge gate and for the tests it runs."""
 import os
+import re
 import shutil
 import stat
 import subprocess
@@ -17,7 +18,9 @@ class Stand(unittest.TestCase):
 SAME = "test: the released object is that of the proved build\n"
 NAMES = ("test_start", "test_transcripts")
 PASSED = "".join(f"{name}.Stand.test_in: ok\n" for name in NAMES)
-SKIPPED = PASSED.replace("ok", "skipped")
+# what a step took, and the steps
+TOOK = re.compile(r"test: (.+) took \d+\.\d minutes by the clock, \d+\.\d of processors\n")
+STEPS = ["the gate", "the mutants", "the released object", "the program", "the proved program", "everything"]
 # the tests that are run again on the program that the kit links
 AGAIN = "".join(f"test: {name} on the program that the kit links\n{name}.Stand.test_in: ok\n" for name in NAMES)
 
@@ -65,6 +68,11 @@ class Whole(ProgramTest):
         ran = subprocess.run([self.top / "test", *words], **how)
         return Ended(ran.returncode, ran.stdout, ran.stderr)
 
+    def skipped(self, reason):
+        """How the tests of the program end where each is left out for this reason."""
+        each = (f"{name}.Stand.test_in: skipped\ntest: 1 tests were skipped, since {reason}\n" for name in NAMES)
+        return Ended(0, f"{''.join(each)}0 passed, 0 failed, 2 skipped\n", "")
+
     def assert_fails(self, last, *words):
         """It ends with status 1 and this last line."""
         ended = self.start(*words)
@@ -72,7 +80,9 @@ class Whole(ProgramTest):
 
     def test_all_passes(self):
         shown = f"gate ci\n7 passed, 0 failed\nwrong \n{SAME}{PASSED}{AGAIN}15 passed, 0 failed\n"
-        self.assertEqual(self.start(), Ended(0, shown, ""))
+        ended = self.start()
+        self.assertEqual(ended._replace(output=TOOK.sub("", ended.output)), Ended(0, shown, ""))
+        self.assertEqual(TOOK.findall(ended.output), STEPS)
 
     def test_the_program_alone(self):
         self.assertEqual(self.start("--program"), Ended(0, f"{PASSED}2 passed, 0 failed\n", ""))
@@ -130,15 +140,13 @@ class Whole(ProgramTest):
 
     def test_a_test_without_its_browser_is_skipped(self):
         self.use_test(f"self.skipTest({NO_BROWSER!r})")
-        shown = f"{SKIPPED}test: 2 tests were skipped, since {NO_BROWSER}\n0 passed, 0 failed, 2 skipped\n"
-        self.assertEqual(self.start("--program"), Ended(0, shown, ""))
+        self.assertEqual(self.start("--program"), self.skipped(NO_BROWSER))
         self.use_test(f"self.skipTest({NO_BROWSER!r} + '?')")
         self.assert_fails("0 passed, 2 failed", "--program")
 
     def test_only_the_tests_of_the_program_alone_leave_out_what_wants_those_of_the_crates(self):
         self.use_test(f"self.skipTest({NO_TESTS!r})")
-        shown = f"{SKIPPED}test: 2 tests were skipped, since {NO_TESTS}\n0 passed, 0 failed, 2 skipped\n"
-        self.assertEqual(self.start("--program"), Ended(0, shown, ""))
+        self.assertEqual(self.start("--program"), self.skipped(NO_TESTS))
         self.assert_fails("11 passed, 2 failed, 2 skipped")
 
     def test_a_file_of_tests_that_cannot_be_read_is_a_failure(self):
