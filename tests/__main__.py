@@ -28,7 +28,9 @@ from wrong import Fault
 
 # The tests of worked rows and of starts, which are also run on the program that the kit links.
 ROWS = ("test_start", "test_transcripts")
-# The files of tests that measure time, which run one after the other once all others have ended.
+# The files of tests that take longest, which begin first, and those that measure time, which run one after the other
+# once all others have ended.
+LONG = ("test_seats", "test_entries", "test_page_monkey", "test_hunt", "test_page_news")
 ALONE = ("test_page_first", "test_wait")
 USAGE = (
     "usage: ./test, or ./test --program [TEXT], or ./test --wrong [CRATE], or ./test --list,"
@@ -222,12 +224,15 @@ def program(text, reasons):
 def file_by_file(reasons):
     """Runs all tests of this folder, so many files at a time that the processors have work while some tests wait."""
     tally = Tally(0, 0)
-    files = sorted((TOP / "tests").glob("test_*.py"), key=lambda file: (file.stem in ALONE, -file.stat().st_size, file.stem))
-    texts = [f"{file.stem}." for file in files]
-    beside = sum(file.stem not in ALONE for file in files)
-    for lanes, part in ((len(os.sched_getaffinity(0)) + 1, texts[:beside]), (1, texts[beside:])):
+    def place(file):
+        return file.stem not in LONG, -file.stat().st_size, file.stem
+
+    names = [file.stem for file in sorted((TOP / "tests").glob("test_*.py"), key=place)]
+    beside = [name for name in names if name not in ALONE]
+    alone = [name for name in names if name in ALONE]
+    for lanes, part in ((len(os.sched_getaffinity(0)) + 1, beside), (1, alone)):
         with ThreadPoolExecutor(lanes) as pool:
-            for text, ended in zip(part, pool.map(in_process, part)):
+            for ended in pool.map(lambda name: in_process(f"{name}."), part):
                 print(ended.said, end="", flush=True)
                 tally = tally.and_also(ended.counted(reasons))
     return tally
