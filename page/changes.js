@@ -115,7 +115,7 @@ function settle(step, after, values) {
  * the end.
  */
 const putMany = (find, breaks = 0) => inTurn(async () => {
-  if (!link.isHeard) { tell(NO_LINK); return; }
+  if (!takesLines()) { tell(NO_LINK); return; }
   try {
     await putFound(Array.isArray(find) ? find : await find(), breaks);
   } catch (error) {

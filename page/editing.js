@@ -5,7 +5,7 @@ const field = () => editing === 'line' ? line : editor;
 function edit(text, where, wasTyped = false) {
   if (editing) return;
   hideOptions();
-  tell(link.isHeard ? '' : WAITS, current, true);
+  tell(takesLines() ? '' : WAITS, current, true);
   corner = current;
   [editing, begunWith, isTyped] = [where, heldAt(current), wasTyped];
   editor.value = text;
@@ -43,12 +43,12 @@ function moveAfter(cell, columns, rows) {
 // The editor closes at once; a refused entry comes back into it, or waits for F2 where something else is done by then.
 async function commit(columns, rows, isArrow) {
   const text = field().value, cell = current, base = begunWith, was = textOf(cell, base);
-  if (!link.isHeard && text !== was) {
+  if (!takesLines() && text !== was) {
     tell(WAITS, cell, true);
     return;
   }
   stopEditing();
-  tell('');
+  tell(link.isHeard || text === was ? '' : COMES, cell, true);
   if (isArrow) home = null;
   moveAfter(cell, columns, rows);
   if (isArrow) home = null;

@@ -23,7 +23,7 @@ WORD = re.compile(r"[A-Za-z_$][\w$]*$")
 LINE_PARTS = 240
 # Properties of the page's own objects that get short names, too. A browser's object of which the scripts use a property
 # of that name would lose it; a call of one is found.
-OWN_PROPERTIES = {"after", "area", "before", "cell", "column", "entry", "from", "isHeard", "isSeen", "isUp", "kind",
+OWN_PROPERTIES = {"after", "area", "before", "cell", "column", "entry", "from", "isHeard", "isNew", "isSeen", "isUp", "kind",
                   "names", "source", "steps", "text", "why"}
 # Words that are declared outside of functions, and stand so often that they get short names.
 OFTEN = {"COLUMNS", "HEIGHT", "NO_LINK", "afterMove", "areaAround", "askMove", "begunWith", "cellAt",

@@ -3,15 +3,17 @@
 const POLL = 200, LEAST_GAP = 40, FIRST_WAIT = 500, LONGEST_WAIT = 5000, MOST_UNDER_WAY = 250;
 // Why the server closes a connection.
 const ENDS = { 'no room': 'all places are taken' };
-const link = { isUp: false, isHeard: false, words: 'connecting', onLink() {}, onChange() {}, onAbout() {} };
+// (`isNew` until the first connection has come about or failed: what is asked meanwhile waits for it)
+const link = { isUp: false, isHeard: false, isNew: true, words: 'connecting', onLink() {}, onChange() {}, onAbout() {} };
+const takesLines = () => link.isHeard || link.isNew;
 let socket = null, pause = FIRST_WAIT, waiting = [], underWay = [];
 
 /** Sends a line; promises the lines of its reply. Many may be under way: they are answered in order. */
 function ask(text) {
   return new Promise((done, fail) => {
-    if (!link.isUp) { fail(new Error('lost')); return; }
+    if (!link.isUp && !link.isNew) { fail(new Error('lost')); return; }
     waiting.push({ text, done, fail });
-    sendWaiting();
+    if (link.isUp) sendWaiting();
   });
 }
 function sendWaiting() {
@@ -23,10 +25,15 @@ function sendWaiting() {
 function connect() {
   const opened = new WebSocket('ws://' + location.host + '/live');
   socket = opened;
-  opened.onopen = () => { link.isUp = true; tellLink('waiting for the server'); };
+  opened.onopen = () => {
+    link.isUp = true;
+    tellLink('waiting for the server');
+    sendWaiting();
+  };
   opened.onmessage = event => {
     if (!link.isHeard) {
       link.isHeard = true;
+      link.isNew = false;
       pause = FIRST_WAIT;
       tellLink('connected');
       setTimeout(askAside, 0, true);
@@ -43,7 +50,7 @@ function connect() {
 }
 function lose(reason) {
   const was = link.isHeard;
-  link.isUp = link.isHeard = false;
+  link.isUp = link.isHeard = link.isNew = false;
   for (const asked of [...underWay.splice(0), ...waiting.splice(0)]) asked.fail(new Error('lost'));
   if (was) { silence = max(400, silence / 2); giveSign(); }
   tellLink((reason || (was ? 'connection lost' : 'no connection')) + ', trying again');

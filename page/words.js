@@ -22,6 +22,7 @@ const FAULTS = {
 };
 const LOST = 'The connection was lost. Look whether this has arrived.';
 const NO_LINK = 'There is no connection: nothing can be changed now.';
+const COMES = 'There is no connection yet: what you typed is put here once there is.';
 const WAITS = 'There is no connection: the entry waits here until it is back.';
 const FUNCTIONS = 'SUM MIN MAX COUNT IF MOD QUOTIENT ABS AND OR NOT TRUE FALSE'.split(' ');
 const inWords = reply => REFUSALS[reply.split(' ')[1]] || 'Refused: ' + reply.slice(4);

@@ -27,6 +27,22 @@ NOTING = """(() => {
   Storage.prototype.getItem = function (name) { note(); return getItem.call(this, name); };
   window.WebSocket = class extends WebSocket { constructor(url) { note(); super(url); } };
 })()"""
+# Has the first connection come about when its `come` is called, or fail when its `fail` is.
+LATE = """(() => {
+  const { WebSocket } = window, late = window.late = [];
+  const hold = url => {
+    const held = { send: text => held.real.send(text), close() {} };
+    held.come = () => {
+      if (held.has_failed) return;
+      held.real = new WebSocket(url);
+      for (const name of ['onopen', 'onmessage', 'onclose']) held.real[name] = event => held[name](event);
+    };
+    held.fail = () => { held.has_failed = true; pause = 10; held.onclose({ reason: '' }); };
+    late.push(held);
+    return held;
+  };
+  window.WebSocket = function (url) { return late.length ? new WebSocket(url) : hold(url); };
+})()"""
 # After so many milliseconds a page no longer waits for its first picture.
 MOST_WAIT = 500
 
@@ -86,6 +102,42 @@ class AfterIt(BrowserTest):
         page.type("5")
         page.key("Enter")
         self.assert_held("get A1", "val 5")
+
+    def typed_early(self, *after):
+        """A page into which something is typed while its connection is still to come. It comes after these steps."""
+        page = self.browser.page()
+        self.addCleanup(page.close)
+        page.call("Page.addScriptToEvaluateOnNewDocument", source=LATE)
+        page.open(self.server.url)
+        page.wait_for("late.length", 1)
+        page.type("Who")
+        page.key("Tab")
+        page.type("Days")
+        page.key("Enter")
+        for step in after:
+            page.value(step)
+        page.value("late[0].come()")
+        page.wait_for("document.getElementById('link').textContent", "connected")
+        return page
+
+    def test_entries_before_the_connection_are_put(self):
+        page = self.typed_early("document.getElementById('refusal').textContent.includes('no connection yet') || fail()")
+        page.wait_for("[shown.get(keyOf(0, 0)), shown.get(keyOf(1, 0)), nameOf(current), editing]", ["Who", "Days", "A2", None])
+        self.assertEqual(self.entries("A1:C1"), ["'Who,'Days,"])
+        self.assertEqual(page.problems, [])
+
+    def test_what_is_there_is_asked_about(self):
+        self.fill("set A1 theirs")
+        page = self.typed_early()
+        page.wait_for("!!document.querySelector('#question[open]')")
+        self.assert_held("get A1", "val theirs")
+
+    def test_entries_whose_connection_never_comes_are_kept(self):
+        page = self.typed_early("late[0].fail()")
+        page.wait_for("document.querySelectorAll('.refused').length", 2)
+        for cell, text in (("[0, 0]", "Who"), ("[1, 0]", "Days")):
+            page.value(f"select({cell})")
+            page.wait_for(f"document.getElementById('hint').textContent.startsWith('refused: {text}')")
 
     def test_keys_before_it_are_taken(self):
         page = self.opened("document.addEventListener('DOMContentLoaded', () => { const key = new KeyboardEvent("
