@@ -1,4 +1,4 @@
 use Rattle.checks_parts.proofs.eval.value_of.Given as goal
 
-abbrev pub ghosts-evaluated : goal.ghosts-evaluated
-ghosts-evaluated a = record { name = a.blank.name; parts = a.blank.parts }
+abbrev pub ghosts-counted : goal.ghosts-counted
+ghosts-counted a = record { name = a.blank.name; parts = a.blank.parts }
