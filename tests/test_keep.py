@@ -95,6 +95,11 @@ class Keeps(KeepingTest):
             peer.stop_sending()
             self.assertEqual(peer.ended(), Ended(0, b"", self.opened(0)))
 
+    def test_lines_in_another_spelling_are_read_and_stay(self):
+        content = b'replica 1\npush [ ["A\\u0031", [1, 1, "5"], [], []] ]\r\n'
+        self.file.write_bytes(content)
+        self.assert_kept(b"get A1\n", b"val 5\n", content, 1)
+
     def test_a_file_whose_lines_were_squashed_is_opened_again(self):
         self.run_kept(lines(*ALL_LINES))
         first, _, rest = self.file.read_bytes().partition(b"\n")
@@ -114,7 +119,7 @@ class Meanwhile(KeepingTest):
         library = build("halt.c", self.place / "halt.so")
         ours, theirs = socket.socketpair()
         with ours, theirs:
-            env = before(library, HALT_CALL=call, HALT_FILE=str(theirs.fileno()))
+            env = before(library, HALT_CALL=call, HALT_FILE=str(theirs.fileno()), HALT_SKIP="0")
             files = {"stdin": subprocess.PIPE, "stdout": subprocess.PIPE}
             words = ("run", "--keep", str(self.file))
             with started(*words, program=PROGRAM, env=env, pass_fds=[theirs.fileno()], **files) as session:
@@ -265,7 +270,7 @@ class Refuses(KeepingTest):
         self.assertEqual(rows[0], first)
 
     def test_a_first_line_that_tells_no_replica(self):
-        for first in (b"replica 0", b"replica 33", b"replica", b"replica x", b"replica 1 1", b" replica 1", b"",
+        for first in (b"replica 0", b"replica 33", b"replica 01", b"replica", b"replica x", b"replica 1 1", b" replica 1", b"",
                       b"hello", FIRST.strip().encode(), b"\xff\xfe"):
             for rest in (b"", FIRST.encode()):
                 with self.subTest(first=first, rest=rest):
@@ -273,7 +278,7 @@ class Refuses(KeepingTest):
                     self.assert_untouched(Ended(3, b"", told), first + b"\n" + rest)
 
     def test_a_file_without_a_line_that_is_no_beginning_of_the_first(self):
-        for content in (b"hello", b"replica 1\r", b"\0" * 100, b"push [["):
+        for content in (b"hello", b"replica 3", b"replica 1\r", b"\0" * 100, b"push [["):
             with self.subTest(content=content):
                 told = lines("err 14 delta", f"line 1 of {self.file}: it is no kept sheet")
                 self.assert_untouched(Ended(3, b"", told), content)

@@ -80,6 +80,9 @@ class Refused(ProgramTest):
         for test in TESTS[crate]:
             self.assert_stands_each(program, test)
 
+    def test_keep(self):
+        self.assert_crate("checks_keep")
+
     def test_state(self):
         self.assert_crate("checks_state")
 
