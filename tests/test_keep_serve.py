@@ -1,11 +1,15 @@
 """`serve --keep FILE`: sessions of a server that keeps its sheet, and that is killed at any moment."""
+import contextlib
+import errno
 import os
 import random
 import select
 import signal
+import socket
 import threading
 import time
 
+import preloaded
 from hunt import kept
 from hunt.deltas import delta_line
 from keeping import KeepingTest, Spoilt, text_of
@@ -13,6 +17,14 @@ from preloaded import PROGRAM
 from program import DEVICE_FAILED, LIMIT, Ended, lines, run
 from servers import Client, comes_to, free_port, serving, sync
 from shortage import ALL, build, each, serve_short
+
+
+def next_told(server, most):
+    """What standard error of a server has next, up to so many bytes or as much as comes within some time."""
+    error, read = server.session.stderr.fileno(), b""
+    while len(read) < most and select.select([error], [], [], LIMIT)[0] and (piece := os.read(error, 4096)):
+        read += piece
+    return read
 
 
 class Serve(KeepingTest):
@@ -98,13 +110,8 @@ class Serve(KeepingTest):
             self.assertEqual(two.ask('push [["B1",[1,6,"5"],[],[]]]'), "ok 2")
             self.assertEqual(two.ask('push [["A1",[1,5,"5"],[],[]],["B1",[2,6,"7"],[],[]]]'), "ok 3")
             self.assertEqual(two.ask('push [["A1",[2,5,"6"],[],[]],["B1",[3,6,"8"],[],[]]]'), "ok 4")
-            error = server.session.stderr.fileno()
             told = self.opened(0) + self.warned(5)
-            read = b""
-            while len(read) < len(told):
-                self.assertTrue(select.select([error], [], [], LIMIT)[0])
-                read += os.read(error, 4096)
-            self.assertEqual(read, told)
+            self.assertEqual(next_told(server, len(told)), told)
             self.assertEqual(one.ask('push [["C1",null,[[5,1,0]],[]]]'), "ok 5")
             self.assertEqual((one.leave(), two.leave()), (b"", b""))
             self.assertEqual(server.client().leave(), b"")
@@ -231,6 +238,36 @@ class Failing(Spoilt):
                 self.assertTrue(text_of(*edits).startswith(content))
                 self.assertGreaterEqual(kept.changes_in(content), answered)
 
+    def test_each_sync_and_write_that_fails_amid_sessions_leaves_what_they_were_answered(self):
+        """Each receipt is the place of its change in the file. (A start makes so many calls.)"""
+        clients, edits = 4, 6
+        for letter, start in (("s", 3), ("f", 1)):
+            # (each client waits for its edit before the next)
+            for first in range(start + 1, start + 1 + edits):
+                with self.subTest(letter=letter, first=first), self.spoiling(letter, first, first, errno.EIO) as (how, _):
+                    self.file.unlink(missing_ok=True)
+                    answered = {}
+                    with serving(clients, "--keep", str(self.file), program=PROGRAM, **how) as server:
+                        threads = [threading.Thread(target=self.edit_down, args=(server, column, edits, answered))
+                                   for column in "ABCDEFGH"[:clients]]
+                        for thread in threads:
+                            thread.start()
+                        for thread in threads:
+                            thread.join(LIMIT)
+                        self.assertEqual(server.ended(), Ended(1, b"", self.opened(0) + self.lost()))
+                    content = self.file.read_text().split("\n")
+                    self.assertEqual(content[-1], "")
+                    for number, cell in answered.items():
+                        self.assertEqual(content[number], f'push [["{cell}",[1,1,"7"],[],[]]]')
+
+    def edit_down(self, server, column, edits, answered):
+        """A client that enters a number down a column, as far as it comes."""
+        with server_gone():
+            client = Client(server.port)
+            for row in range(1, edits + 1):
+                reply = client.ask(f"set {column}{row} 7")
+                answered[int(reply.removeprefix("ok "))] = f"{column}{row}"
+
     def test_memory_that_is_refused(self):
         """What was answered is in the file, and so is all that is there when it closes; no session waits for memory."""
         library = build(self.place)
@@ -290,6 +327,61 @@ class server_gone:
 
     def __exit__(self, kind, value, trace):
         return kind is not None and issubclass(kind, (ConnectionError, EOFError))
+
+
+class Syncing(KeepingTest):
+    """A server that halts before each sync after those of its start."""
+
+    SESSIONS, START = 12, 3
+
+    @contextlib.contextmanager
+    def halting(self):
+        """The server, and a socket: a byte comes of each sync, which goes on once one is sent."""
+        library = preloaded.build("halt.c", self.place / "halt.so")
+        ours, theirs = socket.socketpair()
+        with ours, theirs:
+            told = {"HALT_CALL": "s", "HALT_FILE": str(theirs.fileno()), "HALT_SKIP": str(self.START)}
+            how = {"env": preloaded.before(library, **told), "pass_fds": [theirs.fileno()]}
+            with serving(self.SESSIONS, "--keep", str(self.file), program=PROGRAM, **how) as server:
+                theirs.close()
+                ours.settimeout(LIMIT)
+                yield server, ours
+
+    def test_edits_go_on_during_a_sync_and_the_next_one_serves_all(self):
+        with self.halting() as (server, ours):
+            clients = [server.client() for _ in range(self.SESSIONS)]
+            self.assertEqual([client.ask("get A1") for client in clients], ["val "] * self.SESSIONS)
+            first, *others, last = clients
+            first.send(b"set A1 7\n")
+            self.assertEqual(ours.recv(1), b"s")
+            for row, client in enumerate(others, 1):
+                client.send(lines(f"set B{row} 7"))
+            # the server tells of this change once it is made
+            last.send(lines('push [["C1",[1,1,"7"],[],[]]]'))
+            told = self.opened(0) + self.warned()
+            self.assertEqual(next_told(server, len(told)), told)
+            # nobody is answered yet
+            self.assertFalse([client for client in clients if client.is_answered_within(0)])
+            self.assertEqual(self.count_in_file(), 1)
+            syncs = []
+            releasing = threading.Thread(target=self.release, args=(ours, syncs))
+            releasing.start()
+            self.assertEqual(first.reply(), "ok 1")
+            self.assertEqual({client.reply() for client in (*others, last)},
+                             {f"ok {number}" for number in range(2, self.SESSIONS + 1)})
+            self.assertEqual([client.leave() for client in clients], [b""] * self.SESSIONS)
+            self.assertEqual(server.ended(), Ended(0, lines(f"closed {self.SESSIONS}"), b""))
+            releasing.join(LIMIT)
+        # one serves all who waited; a change that was made later waits for one more
+        self.assertLessEqual(len(syncs), 2)
+        self.assertEqual(self.count_in_file(), self.SESSIONS)
+
+    def release(self, ours, syncs):
+        """Has the sync go on that has halted, and each one after it, which it counts."""
+        ours.send(b"!")
+        while byte := ours.recv(1):
+            syncs.append(byte)
+            ours.send(b"!")
 
 
 class Killed(KeepingTest):
