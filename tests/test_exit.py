@@ -5,6 +5,28 @@ USAGE = "Usage: sheet <COMMAND>"
 RUN_USAGE = "Usage: sheet run [OPTIONS]"
 TABLE_USAGE = "Usage: sheet table [OPTIONS]"
 MORE = "For more information, try '--help'."
+# Words that are refused, besides numbers out of range (`test_start.py` tries those of each option).
+NO_WORDS = """
+run --entries
+run --keep
+run --keep a --keep b
+table --strict
+table --keep plan.lines
+serve --sessions 1
+sync --from 1
+join --from 1
+join --to 1
+join --from=1 --to=2 --once=yes
+join --from=1 --to=2 --until-now
+follow --until-now
+follow --from=1 --until-now=yes
+talk --explain
+squash plan.lines
+squash --keep
+squash --workers 1
+squash --keep plan.lines --until 1
+squash --without 1 --keep plan.lines
+""".strip().splitlines()
 
 
 class Statuses(ProgramTest):
@@ -75,6 +97,12 @@ class Statuses(ProgramTest):
     def test_2_for_a_word_that_is_not_utf_8(self):
         said = lines("error: invalid UTF-8 was detected in one or more arguments")
         self.assertEqual(run("run", b"\xff"), Ended(2, b"", said))
+
+    def test_2_for_each_of_these_words(self):
+        for words in NO_WORDS:
+            with self.subTest(words=words):
+                ended = run(*words.split())
+                self.assertEqual((ended.status, ended.output), (2, b""))
 
     def test_2_before_anything_is_read(self):
         self.assertEqual(run("run", "--replica", "33", given=b"get A1\n").output, b"")

@@ -102,17 +102,51 @@ SIGNS = (
     ("−", "-"), ("–", "-"), ("×", "*"), ("·", "*"), ("/", "QUOTIENT(a;b)"), ("÷", "QUOTIENT(a;b)"), ("%", "MOD(a;b) or QUOTIENT(a;100)"),
     ("&&", "AND(a;b)"), ("||", "OR(a;b)"), ("{", "("), ("}", ")"),
 )
-# Lines that are refused, the reply, and what is told.
+# Lines after which a counter, a set and a register are full.
+FULL = (
+    "set T1 @tally", 'push [["T1",null,[[1,1099511627776,0]],[]]]',
+    "set C1 @choice", 'push [["C1",null,[],[[0,1,256,0]]]]',
+    'push [["X1",[9007199254740991,1,"5"],[],[]]]',
+)
+NO_CELL, SPACES = "cells are A1 to CZ1024", "one space stands between two words, and none at the end"
+PLAIN_CELL = "a cell is written A1, without brackets and $"
+# Lines that are refused after those, the reply, and what is told.
 LINES = (
     ("SET A1 5", "err 16 command", "SET is written set"),
-    ("walk", "err 16 command", "walk is no verb; the verbs are get, set, add, sub, choose, unchoose, rows, entry, "
+    ("walk A1", "err 16 command", "walk is no verb; the verbs are get, set, add, sub, choose, unchoose, rows, entry, "
      "entries, push, merge, pull, replica, wait"),
-    ("get a1", "err 1 cell", "a1 is written A1"),
-    ("get A1 ", "err 16 command", "one space stands between two words, and none at the end"),
-    ("add A1 1", "err 5 not-tally", "set A1 @tally makes it a counter"),
-    ("pull 0 17", "err 17 version", "pull has a version that there is, and at most 16 deltas"),
+    ("add A1", "err 16 command", "it is written add <cell> <amount>"),
+    ("get A1 ", "err 16 command", SPACES),
+    ("get  A1", "err 16 command", SPACES),
     ("Replica 1", "err 16 command", "Replica is written replica"),
+    ("replica 3 4", "err 16 command", "it is written replica or replica <number>"),
     ("replica 33", "err 9 replica", "replicas are 1 to 32"),
+    ("replica ", "err 9 replica", SPACES),
+    ("get a1", "err 1 cell", "a1 is written A1"),
+    ("get A1025", "err 1 cell", NO_CELL),
+    ("get $A$1", "err 1 cell", PLAIN_CELL),
+    ("get [.A1]", "err 1 cell", PLAIN_CELL),
+    ("rows A1", "err 1 cell", "a rectangle is written A1:B2"),
+    ("rows A1:b2", "err 1 cell", "b2 is written B2"),
+    ("rows A1:DA2", "err 1 cell", NO_CELL),
+    ("set B1 '", "err 2 text", "a text has one byte at least"),
+    ("set B1 a\tb", "err 2 text", "a text has no tab"),
+    ("set B1 a\x7f", "err 2 text", "a text has no byte 127"),
+    (f"set B1 ={'-' * 255}1", "err 4 too-long", "written out it has more than 256 bytes"),
+    ("add A1 1", "err 5 not-tally", "set A1 @tally makes it a counter"),
+    ("choose A1 1", "err 6 not-choice", "set A1 @choice makes it a set"),
+    ("add A1 0", "err 7 amount", "amounts are 1 to 1000000"),
+    ("add A1 1.5", "err 7 amount", "1.5: numbers are whole"),
+    ("add A1 -5", "err 7 amount", "amounts have no sign; sub takes away"),
+    ("choose A1 64", "err 8 option", "options are 0 to 63"),
+    ("add T1 1", "err 10 tally-full", "this replica's count ends at 1099511627776"),
+    ("choose C1 1", "err 11 choice-full", "this replica has chosen 256 times in this cell"),
+    ("unchoose C1 1", "err 12 not-chosen", "the option isn't in the cell"),
+    ("set X1 1", "err 13 clock-full", "the cell has been set to its last time"),
+    ('push delta 1 [["A1",[1,1,"5"],[],[]]]', "err 14 delta",
+     "of a reply to pull only what follows its number is pushed"),
+    ("push x", "err 14 delta", 'the line of a delta is [["A1",[1,1,"5"],[],[]]]'),
+    ("pull 0 17", "err 17 version", "pull has a version that there is, and at most 16 deltas"),
 )
 
 
@@ -152,9 +186,10 @@ class OfLines(ProgramTest):
         self.assertEqual(ended, Ended(0, lines(*["err 3 formula"] * len(SIGNS)), lines(*told)))
 
     def test_words_of_lines(self):
-        told = [f"line {number}: {reply}: {note}" for number, (_, reply, note) in enumerate(LINES, 1)]
-        ended = run("run", "--explain", given=lines(*(line for line, _, _ in LINES)))
-        self.assertEqual(ended, Ended(0, lines(*(reply for _, reply, _ in LINES)), lines(*told)))
+        told = [f"line {number}: {reply}: {note}" for number, (_, reply, note) in enumerate(LINES, len(FULL) + 1)]
+        ended = run("run", "--explain", given=lines(*FULL, *(line for line, _, _ in LINES)))
+        replies = [*(f"ok {version}" for version in range(1, len(FULL) + 1)), *(reply for _, reply, _ in LINES)]
+        self.assertEqual(ended, Ended(0, lines(*replies), lines(*told)))
 
     def test_empty_lines_and_lines_that_are_too_long_count(self):
         given = b"\n\r\n" + b"x" * 300_000 + b"\nset A1 1.5\nget a1"

@@ -109,6 +109,12 @@ class Help(ProgramTest):
         self.assert_tells(["run", "--help"], "Usage: sheet run", "--workers", "--replica", "--explain", "--strict", "--keep",
                           *(f"{it} " for it in verbs))
 
+    def test_help_of_run_names_the_last_cell_and_the_largest_group(self):
+        self.assert_tells(["run", "--help"], "A1 to CZ1024. ", "  pull 0 16  ")
+        given = lines("get CZ1024", "get CZ1025", "get DA1024", "pull 0 16", "pull 0 17")
+        self.assertEqual(run("run", given=given),
+                         Ended(0, lines("val ", "err 1 cell", "err 1 cell", "end 0", "err 17 version")))
+
     def test_help_of_table_names_its_options(self):
         self.assert_tells(["table", "--help"], "Usage: sheet table", "--workers", "--entries", "--explain")
 

@@ -1,4 +1,4 @@
-//! Devices that fail in the middle of a session.
+//! A session of a sheet whose source fails midway.
 ghost use Rattle.std.specs.Prelude.{◌≡◌, ◌<◌};
 ghost use Rattle.ps_grid.specs.Blanks.{IsBlankOf};
 
@@ -110,37 +110,6 @@ fn session<R: Threads + Sync>(
         Blank::new(1),
         Blank::new(1),
     )
-}
-
-/// Returns whether a session of three edits, on a writer that fails after so many calls, ends as it must.
-///
-/// It ends with the sink's failure, and what was written is a beginning of the replies. The sheet is that of the lines
-/// up to the one whose reply was cut.
-fn ends_after<R: Threads + Sync>(rt: &R, alloc: Global, calls: usize) -> Result<bool, Refusal> {
-    let due = b"ok 1\nok 2\nok 3\n";
-    let kept = RefCell::new(Vec::new(alloc));
-    let given = Given {
-        bytes: b"set A1 1\nset A1 2\nset A1 3\n",
-        fails: false,
-    };
-    let keeper = Keeper { kept: &kept, calls };
-    let found = session(rt, alloc, given, keeper)?;
-    let bytes = kept.into_inner();
-    let lines = bytes.iter().filter(|byte| **byte == b'\n').count() as u64;
-    Ok(
-        due.starts_with(bytes.as_slice())
-            && found.ran == Err(RunFault::Sink)
-            && found.version == lines + 1,
-    )
-}
-
-/// A sink that fails at its k-th call, for each k: each reply is one call.
-#[test]
-fn a_failing_sink(rt: HostRuntime) -> Result<(), Fail> {
-    for calls in 0..3 {
-        assert!(rt; ends_after(&rt, rt.alloc(), calls)?, "after {calls} calls");
-    }
-    Ok(())
 }
 
 /// A source that fails in the middle of a line: the complete lines are answered, and the rest isn't carried out.

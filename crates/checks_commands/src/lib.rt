@@ -1,16 +1,12 @@
-//! Tests of `ps_commands`, `ps_server`, `ps_words` and `ps_hints`, by their public items.
+//! Tests of `ps_server` and `ps_session`, by their public items.
 //!
-//! They test a session at a desk, devices that fail, the command line and its help, and hints.
-//! They are a crate of their own, since a crate with tests is proved twice. No crate depends on this one.
+//! - `attending`: a session at a desk, over devices of memory.
+//! - `devices`: a session of a sheet, over devices of its own.
+//!
+//! They are a crate of their own, since a crate with tests is proved twice. No other crate depends on it.
 #![tactic(auto)]
 
 #[cfg(test)]
 mod attending;
 #[cfg(test)]
 mod devices;
-#[cfg(test)]
-mod help;
-#[cfg(test)]
-mod hints;
-#[cfg(test)]
-mod words;
