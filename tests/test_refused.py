@@ -26,8 +26,6 @@ TESTS = {
         "desk::memory::refused_receive", "kept_line::refused_read_kept_line",
     ),
 }
-# It stops where the last of its requests is refused, which may be one of its own looks at the grid: not tried so yet.
-LEFT_OUT = {"checks_state": ("delta::refused::refused_join",)}
 # No test makes more requests than that.
 MOST = 20_000
 
@@ -76,7 +74,7 @@ class Refused(ProgramTest):
         listed = subprocess.run([program, "--list"], capture_output=True, check=True, timeout=LIMIT).stdout.decode()
         names = [line.removesuffix(": test") for line in listed.splitlines()]
         found = [name for name in names if name.split("::")[-1].startswith("refused_")]
-        self.assertEqual(sorted(found), sorted(TESTS[crate] + LEFT_OUT.get(crate, ())))
+        self.assertEqual(sorted(found), sorted(TESTS[crate]))
         for test in TESTS[crate]:
             self.assert_stands_each(program, test)
 

@@ -8,7 +8,7 @@ ghost use Rattle.ps_index.specs.Stands.{Puts, Stands, with_put};
 
 use ps_formula::Formula;
 use ps_grid::{CELLS, COLUMNS, Cell, Refusal};
-use ps_index::{Index, Readers, Span};
+use ps_index::{Index, Readers};
 use std::alloc::Global;
 
 /// The cell that a name names.
@@ -76,36 +76,6 @@ fn put_in(index: &mut Index, cell: Cell, formula: &Formula) -> Result<(), Refusa
     index.set(cell, None, Some(formula))
 }
 
-/// Whether column B has one span, of these rows.
-fn has_one_span(index: &Index, from: u16, to: u16, cell: Cell) -> bool {
-    index.spans(1) == [Span { from, to, cell }].as_slice()
-}
-
-/// Ranges of a formula that meet are one span, and the cells in all of them are referred to once.
-#[test]
-fn ranges_that_meet_are_one_span(rt: HostRuntime) {
-    let found = ranges_that_meet(rt.alloc());
-    assert!(rt; found == Ok(true));
-}
-
-/// Whether two ranges that overlap are one span, and each cell has the right readers.
-fn ranges_that_meet(alloc: Global) -> Result<bool, Refusal> {
-    let index = index_of(alloc, "A1 =SUM([.B1:.B2];[.B2:.B3])\nB2 =[.C1]")?;
-    let rows = [
-        ("B1", "A1"),
-        ("B2", "A1"),
-        ("B3", "A1"),
-        ("C1", "B2"),
-        ("B4", ""),
-        ("CZ1024", ""),
-    ];
-    Ok(
-        has_one_span(&index, 1, 3, cell("A1")?)
-            && index.spans(0).is_empty()
-            && all_refer(&index, &rows),
-    )
-}
-
 /// A cell of a column without ranges is known to have no reader, or a single one, without a walk.
 #[test]
 fn readers_are_known_without_a_walk(rt: HostRuntime) {
@@ -148,69 +118,6 @@ fn are_walked(index: &Index, to: Cell, reader: Cell) -> bool {
         Readers::TwoRows(mut walk) => walk.next() == Some(reader),
         _ => false,
     }
-}
-
-/// A cell for which two formulas are put in comes once, as long as one of them is in.
-#[test]
-fn a_cell_with_two_formulas_comes_once(rt: HostRuntime) {
-    let found = two_formulas(rt.alloc());
-    assert!(rt; found == Ok(true));
-}
-
-/// Whether a cell is found once with two formulas, once with one of them, and not without both.
-fn two_formulas(alloc: Global) -> Result<bool, Refusal> {
-    let cell = cell("A1")?;
-    let sum = Formula::read(alloc, b"=SUM([.B1:.B2];[.B2:.B3])")?;
-    let other = Formula::read(alloc, b"=[.B3]")?;
-    let mut index = Index::new(alloc)?;
-    index.set(cell, None, Some(&sum))?;
-    index.set(cell, None, Some(&other))?;
-    let both = refer_to(&index, "A1", "") && all_refer(&index, &[("B1", "A1"), ("B3", "A1")]);
-    index.remove(cell, &other);
-    let one = has_one_span(&index, 1, 3, cell);
-    index.remove(cell, &sum);
-    Ok(both && one && index.spans(1).is_empty())
-}
-
-/// A column takes a span of each of two formulas of each cell.
-#[test]
-fn a_column_takes_two_spans_of_each_cell(rt: HostRuntime) {
-    let found = crowded(rt.alloc());
-    assert!(rt; found == Ok(true));
-}
-
-/// Whether the formulas of all cells are found at a row, and then others beside them at another one.
-fn crowded(alloc: Global) -> Result<bool, Refusal> {
-    let first = Formula::read(alloc, b"=[.A512]")?;
-    let second = Formula::read(alloc, b"=[.A1024]")?;
-    let mut index = Index::new(alloc)?;
-    put_everywhere(&mut index, &first)?;
-    put_everywhere(&mut index, &second)?;
-    let few = readers_of(&index, cell("A512")?);
-    let more = readers_of(&index, cell("A1024")?);
-    Ok(index.spans(0).len() == 2 * CELLS && few == CELLS && more == CELLS)
-}
-
-/// How many cells refer to a cell.
-fn readers_of(index: &Index, to: Cell) -> usize {
-    let mut found = 0usize;
-    for _reader in index.dependents(to) {
-        found = found.wrapping_add(1);
-    }
-    found
-}
-
-/// Puts a formula in for each cell.
-fn put_everywhere(index: &mut Index, formula: &Formula) -> Result<(), Refusal>
-    requires { (forms : Puts) × Stands index.old forms }
-    ensures { OnOk result ((forms : Puts) × Stands index.new forms) }
-{
-    for k in 0..CELLS {
-        if let Some(cell) = Cell::from_index(k) {
-            put_in(index, cell, formula)?;
-        }
-    }
-    Ok(())
 }
 
 /// Whether the same cells refer to a cell in both.

@@ -1,5 +1,5 @@
-//! Tests of the replicated state and of the parts of a sheet, by their public items: `ps_delta`, `ps_shown`,
-//! `ps_index`, `ps_workers` and `ps_wire`.
+//! Tests of the replicated state and of the parts of a sheet, by their public items: `ps_delta`, `ps_index` and
+//! `ps_wire`.
 //!
 //! They are a crate of their own, as a crate with tests is proved twice. No other crate uses it.
 #![tactic(auto)]
@@ -9,10 +9,4 @@ mod delta;
 #[cfg(test)]
 mod index;
 #[cfg(test)]
-mod shown;
-#[cfg(test)]
-mod sums;
-#[cfg(test)]
 mod wire;
-#[cfg(test)]
-mod workers;
