@@ -396,12 +396,12 @@ impl<L: DeskName, W: Wait + Drop> Desk<L, W> {
         ensures asked { IfErr result (λ e. e ≡ Memory → from < length (history_of L.opening position.new)) }
     {
         let mut state = self.state.lock(wait);
-        let had_hidden = state.has_hidden();
         let shown = state.show();
         position.catch_up(wait, shown);
         let deltas = state.deltas_after(alloc, from, usize::MAX);
         drop(state);
-        self.wake(had_hidden);
+        // another look may have shown what was hidden, and looks wake nobody
+        self.wake(true);
         deltas
     }
 

@@ -43,8 +43,6 @@ pub(crate) struct DeskState<L: DeskName, W: Wait + Drop> {
     sheet: Staging,
     copies: FaceWriter<L, W>,
     book: Book<L>,
-    /// a change was made that is to be shown later, and nothing was shown since
-    has_hidden: bool,
 }
 
 impl<L: DeskName, W: Wait + Drop> Model for DeskState<L, W> {
@@ -81,7 +79,6 @@ impl<L: DeskName, W: Wait + Drop> DeskState<L, W> {
             sheet: Staging::new(sheet),
             copies,
             book,
-            has_hidden: false,
         }
     }
 
@@ -103,18 +100,12 @@ impl<L: DeskName, W: Wait + Drop> DeskState<L, W> {
         self.sheet.version()
     }
 
-    /// Whether some of the published list may wait to be shown.
-    pub(crate) fn has_hidden(&self) -> bool {
-        self.has_hidden
-    }
-
     /// Shows all of the published list to those who look.
     pub(crate) fn show(&mut self) -> ShownPosition<L>
         ensures copies { self.new ≡ record self.old { shown = self.old.list } }
         ensures shown { result ≡ self.new.list }
     {
         self.copies.show();
-        self.has_hidden = false;
         // for the fact that the list is legal
         let _ = self.copies.front();
         ShownPosition::new(&self.copies.shown())
@@ -132,7 +123,6 @@ impl<L: DeskName, W: Wait + Drop> DeskState<L, W> {
             sheet,
             copies: _,
             mut book,
-            has_hidden: _,
         } = self;
         book.audit(all);
         sheet.into_sheet()
@@ -174,9 +164,7 @@ impl<L: DeskName, W: Wait + Drop> DeskState<L, W> {
             sheet,
             copies,
             book,
-            has_hidden,
         } = self;
-        *has_hidden = showing.hides();
         make_way(copies, showing);
         pass.catch_up(wait, copies.front());
         let _report = sheet.stage(rt, &Open, alloc, change, meter)?;

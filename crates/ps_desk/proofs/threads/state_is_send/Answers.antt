@@ -1,5 +1,5 @@
 use denote.Exit.{yes}
-use denote.Param.Send.{IsSend, sendable}
+use denote.Param.Send.{IsSend}
 use denote.Param.SendFields.{declared_send, as_row_send}
 use denote.Struct.Declared as S
 use Rattle.std.specs.contracts.sync.ledger.Book as book
@@ -21,7 +21,7 @@ returns g c =
         (
           as_row_send (book.the_field g.row.L g.L.Ledger)
               (record { owned = c.is_send.ensures.owned; leaving = λ k. c.is_send.ensures.leaving yes }),
-          (search sendable, tt),
+          tt,
         ),
       ),
     ) in

@@ -13,8 +13,8 @@ returns-clause-deltas g c =
     let from = c.args.from in
     let is = c.catch_up.ensures.all ∙ c.show-shown.ensures.shown in
     subst (λ (z : List Entries). IfOk c.deltas_after-deltas.result (λ ds. ds.items ≡ z))
-    (take_all (2 ^ 64 - 1) (drop from (history_of h c.deref-2.result.now.list))
-    (omega (arith, length-drop from (history_of h c.deref-2.result.now.list), c.deltas_after-deltas.ensures.bound))
-    ∙ ap (λ (p : Published). drop from (history_of h p.list)) c.deref-2.ensures
+    (take_all (2 ^ 64 - 1) (drop from (history_of h c.deref.result.now.list))
+    (omega (arith, length-drop from (history_of h c.deref.result.now.list), c.deltas_after-deltas.ensures.bound))
+    ∙ ap (λ (p : Published). drop from (history_of h p.list)) c.deref.ensures
     ∙ ap (λ (l : List Note). drop from (history_of h l)) (sym is))
     c.deltas_after-deltas.ensures.deltas
