@@ -333,6 +333,8 @@ class Syncing(KeepingTest):
     """A server that halts before each sync after those of its start."""
 
     SESSIONS, START = 12, 3
+    # what is less than the longest wait of a session, in seconds, and for how long it is looked whether one goes on
+    SOON, LOOK = 10, 0.4
 
     @contextlib.contextmanager
     def halting(self):
@@ -375,6 +377,26 @@ class Syncing(KeepingTest):
         # one serves all who waited; a change that was made later waits for one more
         self.assertLessEqual(len(syncs), 2)
         self.assertEqual(self.count_in_file(), self.SESSIONS)
+
+    def test_a_look_at_a_change_keeps_nobody_from_hearing_of_it(self):
+        with self.halting() as (server, ours):
+            first, writer, looker, reader = (server.client() for _ in range(4))
+            self.assertEqual([client.ask("get A1") for client in (first, writer, looker, reader)], ["val "] * 4)
+            first.send(b"set A1 1\n")
+            self.assertEqual(ours.recv(1), b"s")
+            reader.send(b"wait 2\n")
+            # the second of these is to be shown after its sync, which waits for the halted one
+            writer.send(lines("set A2 2", "set A3 3"))
+            self.assertFalse(reader.is_answered_within(self.LOOK))
+            # .. and is shown by this look before
+            looker.send(b"entries A1:A3\n")
+            self.assertFalse(looker.is_answered_within(self.LOOK))
+            threading.Thread(target=self.release, args=(ours, []), daemon=True).start()
+            begun = time.monotonic()
+            self.assertEqual(reader.reply(), "version 3")
+            self.assertLess(time.monotonic() - begun, self.SOON)
+            self.assertEqual([writer.reply(), writer.reply()], ["ok 2", "ok 3"])
+            self.assertEqual([looker.reply() for _ in range(4)], ["entries 3", "1", "2", "3"])
 
     def release(self, ours, syncs):
         """Has the sync go on that has halted, and each one after it, which it counts."""
