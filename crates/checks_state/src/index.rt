@@ -8,7 +8,7 @@ ghost use Rattle.ps_index.specs.Stands.{Puts, Stands, with_put};
 
 use ps_formula::Formula;
 use ps_grid::{CELLS, COLUMNS, Cell, Refusal};
-use ps_index::{Index, Readers};
+use ps_index::Index;
 use std::alloc::Global;
 
 /// The cell that a name names.
@@ -74,50 +74,6 @@ fn put_in(index: &mut Index, cell: Cell, formula: &Formula) -> Result<(), Refusa
     ensures { OnOk result ((forms : Puts) × Stands index.new forms) }
 {
     index.set(cell, None, Some(formula))
-}
-
-/// A cell of a column without ranges is known to have no reader, or a single one, without a walk.
-#[test]
-fn readers_are_known_without_a_walk(rt: HostRuntime) {
-    let found = known_readers(rt.alloc());
-    assert!(rt; found == Ok(true));
-}
-
-/// Whether the one reader of A1 is known, and that A3 has none, while those of A2 and F1 are found by a walk.
-///
-/// The two readers of A2 are walked as those of a row. F1 is a row below the one at which its range is kept, so that
-/// its reader is walked as those of two rows.
-fn known_readers(alloc: Global) -> Result<bool, Refusal> {
-    let lines = "B1 =[.A1]\nC1 =[.A2]\nD1 =[.A2]\nE1 =SUM([.F1:.F2])";
-    let index = index_of(alloc, lines)?;
-    Ok(
-        one_reads(&index, cell("A1")?, cell("B1")?)
-            && are_walked(&index, cell("A2")?, cell("C1")?)
-            && nobody_reads(&index, cell("A3")?)
-            && are_walked(&index, cell("F1")?, cell("E1")?),
-    )
-}
-
-/// Whether the cell is known to have no reader.
-fn nobody_reads(index: &Index, to: Cell) -> bool {
-    matches!(index.readers(to), Readers::Nobody)
-}
-
-/// Whether the cell is known to have this one reader.
-fn one_reads(index: &Index, to: Cell, reader: Cell) -> bool {
-    match index.readers(to) {
-        Readers::One(found) => found == reader,
-        _ => false,
-    }
-}
-
-/// Whether a walk of one or two rows of spans gives this first reader.
-fn are_walked(index: &Index, to: Cell, reader: Cell) -> bool {
-    match index.readers(to) {
-        Readers::Row(mut walk) => walk.next() == Some(reader),
-        Readers::TwoRows(mut walk) => walk.next() == Some(reader),
-        _ => false,
-    }
 }
 
 /// Whether the same cells refer to a cell in both.
@@ -192,27 +148,31 @@ static EXCHANGED: [(&str, &str); 7] = [
 ];
 
 /// Whether refused calls left all as it was, and the next ones put a formula in and exchanged it for another.
-fn refuse_set(alloc: Global) -> Result<bool, Refusal> {
-    let cell = cell("A9")?;
-    let old = Formula::read(alloc, b"=SUM([.B1:.B9])+[.A1024]")?;
-    let new = Formula::read(alloc, b"=SUM([.B3:.CZ10])")?;
+fn refuse_set(alloc: Global, cell: Cell, old: &Formula, new: &Formula) -> Result<bool, Refusal> {
     let mut index = index_of(alloc, BESIDE)?;
     let mut twin = index_of(alloc, BESIDE)?;
-    let is_put = set_again(&mut index, &twin, cell, None, &old)?;
+    let is_put = set_again(&mut index, &twin, cell, None, old)?;
     let before = all_refer(&index, &PUT);
-    twin.set(cell, None, Some(&old))?;
-    let is_exchanged = set_again(&mut index, &twin, cell, Some(&old), &new)?;
+    twin.set(cell, None, Some(old))?;
+    let is_exchanged = set_again(&mut index, &twin, cell, Some(old), new)?;
     let after = all_refer(&index, &EXCHANGED);
     Ok(is_put && before && is_exchanged && after)
+}
+
+/// The same for a formula of A9 and another one.
+fn refuse_sets(alloc: Global) -> Result<bool, Refusal> {
+    let old = Formula::read(alloc, b"=SUM([.B1:.B9])+[.A1024]")?;
+    let new = Formula::read(alloc, b"=SUM([.B3:.CZ10])")?;
+    refuse_set(alloc, cell("A9")?, &old, &new)
 }
 
 /// After a refused `set`, with no old formula and with one, the cells that refer to each cell are as before, and the
 /// next call puts the new formula in.
 #[test]
 fn refused_set(rt: HostRuntime) {
-    let mut found = refuse_set(rt.alloc());
+    let mut found = refuse_sets(rt.alloc());
     if found == Err(Refusal::Memory) {
-        found = refuse_set(rt.alloc());
+        found = refuse_sets(rt.alloc());
     }
     assert!(rt; found == Ok(true));
 }

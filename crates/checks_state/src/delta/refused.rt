@@ -3,35 +3,59 @@
 //! A test passes whichever single allocation is refused in its process (`tests/test_refused.py`). If the refused one
 //! comes before the call under test, everything is done once more.
 
-use super::{check_six, grid_with, joined, six};
+ghost use Rattle.std.specs.Prelude.{◌<◌, length};
+
+use super::{HALF, OTHER_HALF, SIX_JOINED};
 use ps_delta::Delta;
 use ps_grid::Refusal;
+use ps_wire::{decode, encode};
 use std::alloc::Global;
-use std::process::Abort;
+
+/// Appends the deltas of these lines.
+fn read(alloc: Global, lines: &str, deltas: &mut Vec<Delta>) -> Result<(), Refusal> {
+    for line in lines.lines() {
+        deltas.push(decode(alloc, line.as_bytes())?)?;
+    }
+    Ok(())
+}
 
 /// The join of the deltas; calls again if the first call is out of memory.
-fn joined_again(rt: &impl Abort, alloc: Global, deltas: &[Delta]) -> Result<Delta, Refusal> {
-    match joined(rt, alloc, deltas) {
-        Err(Refusal::Memory) => joined(rt, alloc, deltas),
+fn joined_again(alloc: Global, deltas: &[Delta]) -> Result<Delta, Refusal>
+    requires { 0 < length deltas.now }
+{
+    match Delta::joined(alloc, deltas) {
+        Err(Refusal::Memory) => Delta::joined(alloc, deltas),
         answer => answer,
     }
 }
 
-/// Whether the join of the six deltas has the two cells that they name, and leaves in a grid what they leave.
-fn refuse_joined(rt: &impl Abort, alloc: Global) -> Result<bool, Refusal> {
-    let deltas = six(rt, alloc)?;
-    let joined = joined_again(rt, alloc, &deltas)?;
-    let grid = grid_with(alloc, &joined)?;
-    check_six(rt, &grid);
-    Ok(joined.parts().len() == 2)
+/// Whether the join of the deltas is written as the line of the six.
+fn is_six(alloc: Global, deltas: &[Delta]) -> Result<bool, Refusal>
+    requires { 0 < length deltas.now }
+{
+    let joined = joined_again(alloc, deltas)?;
+    let mut line = Vec::new(alloc);
+    encode(alloc, &joined, &mut line)?;
+    Ok(line.as_slice() == SIX_JOINED)
+}
+
+fn refuse_joined(alloc: Global) -> Result<bool, Refusal> {
+    let mut deltas = Vec::new(alloc);
+    read(alloc, HALF, &mut deltas)?;
+    read(alloc, OTHER_HALF, &mut deltas)?;
+    if deltas.len() > 0 {
+        is_six(alloc, &deltas)
+    } else {
+        Ok(false)
+    }
 }
 
 /// A join of six deltas that is refused is `Memory`, and the next one is their join.
 #[test]
 fn refused_joined(rt: HostRuntime) {
-    let mut found = refuse_joined(&rt, rt.alloc());
+    let mut found = refuse_joined(rt.alloc());
     if found == Err(Refusal::Memory) {
-        found = refuse_joined(&rt, rt.alloc());
+        found = refuse_joined(rt.alloc());
     }
     assert!(rt; found == Ok(true));
 }
