@@ -160,6 +160,16 @@ class Failing(Spoilt):
         # nothing of what was kept was answered, and nothing of it is broken
         self.assert_acknowledged_is_kept(EDITS, Ended(1))
 
+    def test_a_reader_that_closes_after_the_first_reply(self):
+        files = {"stdin": subprocess.PIPE, "stdout": subprocess.PIPE}
+        with started("run", "--keep", str(self.file), program=PROGRAM, **files) as session:
+            peer = peers.Peer(session, session.stdin.fileno(), session.stdout.fileno())
+            output = lines(peer.ask(EDITS[0]))
+            session.stdout.close()
+            _, error = session.communicate(lines(*EDITS[1:]), timeout=LIMIT)
+            self.assertEqual((session.returncode, error), (1, self.opened(0) + DEVICE_FAILED))
+        self.assertEqual(self.assert_acknowledged_is_kept(EDITS, Ended(1, output)), 1)
+
     def test_memory_that_is_refused(self):
         library = build(self.place)
         given = self.place / "given"

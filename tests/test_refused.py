@@ -22,8 +22,8 @@ TESTS = {
         "sheet::refused::refused_receive",
     ),
     "checks_sessions": (
-        "desk::memory::refused_edit", "desk::memory::refused_open", "desk::memory::refused_pull",
-        "desk::memory::refused_receive", "kept_line::refused_read_kept_line",
+        "desk::refused_edit", "desk::refused_open", "desk::refused_pull", "desk::refused_receive",
+        "kept_line::refused_read_kept_line",
     ),
 }
 # No test makes more requests than that.

@@ -1,4 +1,4 @@
-use Rattle.checks_sessions.proofs.desk.desks.answer.Given as goal
+use Rattle.checks_sessions.proofs.desk.answer.Given as goal
 
 abbrev pub ghosts-made : goal.ghosts-made
 ghosts-made g a = record { name = a.blank.name; parts = a.blank.parts }

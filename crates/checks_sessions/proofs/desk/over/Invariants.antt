@@ -1,4 +1,4 @@
-use Rattle.checks_sessions.proofs.desk.shown.at_a_desk.Given as goal
+use Rattle.checks_sessions.proofs.desk.over.Given as goal
 
 abbrev pub ghosts-life-L-Ledger : goal.ghosts-life-L-Ledger
 ghosts-life-L-Ledger g a = record { name = a.parts.ledger; parts = a.parts.seats }

@@ -1,4 +1,0 @@
-use Rattle.checks_sessions.proofs.desk.desks.make.Given as goal
-
-abbrev pub ghosts-made : goal.ghosts-made
-ghosts-made g a = record { name = a.blank.name; parts = a.blank.parts }
