@@ -17,7 +17,7 @@ TESTS = {
         "delta::refused::refused_joined", "index::refused_set", "wire::refused_decode_and_encode",
     ),
     "checks_sheet": (
-        "csv::refused_import", "face::refused_append", "face::waiting::refused_post", "sheet::refused::refused_edit",
+        "csv::refused_import", "face::refused_append", "face::refused_post", "sheet::refused::refused_edit",
         "sheet::refused::refused_merge", "sheet::refused::refused_open", "sheet::refused::refused_prepare",
         "sheet::refused::refused_receive",
     ),

@@ -49,84 +49,76 @@ fn take_from<R: Threads + Sync, T: Read + Drop>(
     }
 }
 
-/// The sheet from A1 to a cell, as a table.
-fn table_of(alloc: Global, sheet: &Sheet, last: &str) -> Result<Vec<u8>, Refusal> {
+/// The first five rows of the sheet, as a table.
+fn table_of(alloc: Global, sheet: &Sheet) -> Result<Vec<u8>, Refusal> {
     let first = Cell::read(b"A1").ok_or(Refusal::Cell)?;
-    let last = Cell::read(last.as_bytes()).ok_or(Refusal::Cell)?;
+    let last = Cell::read(b"B5").ok_or(Refusal::Cell)?;
     exported_text(alloc, sheet, Rect::new(first, last))
 }
 
-/// Ten records, and what the sheet shows of each.
-static TEN: [(&[u8], &[u8]); 10] = [
-    (b"1,=[.A1]*3\n", b"1,3\n"),
-    (b"2,=[.A2]*3\n", b"2,6\n"),
-    (b"3,text\n", b"3,text\n"),
-    (b"4,=[.B1]\n", b"4,3\n"),
-    (b"5,\n", b"5,\n"),
-    (b"6,=[.A7]\n", b"6,7\n"),
-    (b"7,@tally\n", b"7,0\n"),
-    (b"8,@choice\n", b"8,{}\n"),
-    (b"9,=SUM([.A1:.A9])\n", b"9,45\n"),
-    (b"10,=MOD(1;0)\n", b"10,#DIV/0!\n"),
+/// Five records. The second one refers to the third.
+const FIVE: &[u8] = b"1,=[.A1]*3\ntext,=[.A3]\n7,@tally\n@choice,=SUM([.A1:.A3])\n=MOD(1;0),\n";
+
+/// What the sheet shows of the first records, from none to all of them, each of them an edit of its own.
+static TABLES: [&[u8]; 6] = [
+    b",\n,\n,\n,\n,\n",
+    b"1,3\n,\n,\n,\n,\n",
+    b"1,3\ntext,0\n,\n,\n,\n",
+    b"1,3\ntext,7\n7,0\n,\n,\n",
+    b"1,3\ntext,7\n7,0\n{},8\n,\n",
+    b"1,3\ntext,7\n7,0\n{},8\n#DIV/0!,\n",
 ];
 
-/// The text of the ten records.
-fn ten(alloc: Global) -> Result<Vec<u8>, Refusal> {
-    let mut text = Vec::new(alloc);
-    for (record, _) in &TEN {
-        text.extend_from_slice(record)?;
-    }
-    Ok(text)
-}
-
-/// Whether the sheet has exactly the first `count` of the ten records, each by an edit of its own. B6 refers to A7, and
-/// shows its number only if the sheet has both.
+/// Whether the sheet has exactly the first `count` of the five records.
 fn stand(alloc: Global, sheet: &Sheet, count: usize) -> Result<bool, Refusal> {
-    let mut text = Vec::new(alloc);
-    for (place, (_, row)) in TEN.iter().enumerate() {
-        let due: &[u8] = match (place < count, place == 5 && count == 6) {
-            (true, false) => row,
-            (true, true) => b"6,0\n",
-            (false, _) => b",\n",
-        };
-        text.extend_from_slice(due)?;
-    }
-    Ok(table_of(alloc, sheet, "B10")?.as_slice() == text.as_slice())
+    let table = table_of(alloc, sheet)?;
+    Ok(
+        TABLES
+            .get(count)
+            .is_some_and(|due| *due == table.as_slice()),
+    )
 }
 
-/// Imports the ten records, and calls again if the first call is out of memory. Returns whether the sheet first had
+/// Imports the five records. Returns whether the sheet then has them all, and this version.
+fn import_all<R: Threads + Sync>(
+    rt: &R,
+    alloc: Global,
+    sheet: &mut Sheet,
+    version: u64,
+) -> Result<bool, Refusal> {
+    let ended = take_from(rt, alloc, FIVE, sheet);
+    let whole = Imported {
+        records: 5,
+        fields: 2,
+    };
+    Ok(ended == Ok(whole) && sheet.version() == version && stand(alloc, sheet, 5)?)
+}
+
+/// Imports the five records, and calls again if the first call is out of memory. Returns whether the sheet first had
 /// exactly the records that the error counts, and then all.
 fn import_again<R: Threads + Sync>(
     rt: &R,
     alloc: Global,
-    text: &[u8],
     sheet: &mut Sheet,
 ) -> Result<bool, Refusal> {
-    let whole = Ok(Imported {
-        records: 10,
-        fields: 2,
-    });
-    let first = take_from(rt, alloc, text, sheet);
-    if first == whole {
-        return Ok(sheet.version() == 10 && stand(alloc, sheet, 10)?);
+    match take_from(rt, alloc, FIVE, sheet) {
+        Ok(_) => Ok(sheet.version() == 5 && stand(alloc, sheet, 5)?),
+        Err((refusal, applied)) => {
+            let is_part = refusal == Refusal::Memory
+                && sheet.version() == applied as u64
+                && stand(alloc, sheet, applied)?;
+            let due = (applied as u64).saturating_add(5);
+            Ok(is_part && import_all(rt, alloc, sheet, due)?)
+        }
     }
-    let before = sheet.version();
-    let is_part = first == Err((Refusal::Memory, before as usize))
-        && stand(alloc, sheet, before as usize)?;
-    let is_whole = take_from(rt, alloc, text, sheet) == whole;
-    Ok(
-        is_part
-            && is_whole
-            && sheet.version() == before.saturating_add(10)
-            && stand(alloc, sheet, 10)?,
-    )
 }
 
 /// Does so with an empty sheet.
 fn refuse_import<R: Threads + Sync>(rt: &R, alloc: Global) -> Result<bool, Refusal> {
-    let text = ten(alloc)?;
     let mut sheet = Sheet::open(alloc, 1, 1)?;
-    import_again(rt, alloc, &text, &mut sheet)
+    let ended = import_again(rt, alloc, &mut sheet);
+    drop(sheet);
+    ended
 }
 
 /// A refused import is `Memory`, and exactly the records that it counts as applied are in the sheet. The next import

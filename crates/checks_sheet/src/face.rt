@@ -1,127 +1,317 @@
-//! Changes of a sheet: each is published as a patch and read.
+//! Patches of a sheet's changes. A call that is out of memory is made again, and a reader sees no more than before.
 
-ghost use Rattle.std.specs.Prelude.{◌≡◌, []};
+ghost use Rattle.std.specs.Prelude.{◌≡◌, ◌++◌, ◌∷◌, [], map, IfOk, OnOk, OnErr};
+ghost use Rattle.ps_shown.specs.Kept.{value_of};
+ghost use Rattle.ps_sheet.specs.Prepared.{IsPrepared, history_after};
+ghost use Rattle.ps_face.specs.Legal.{Follows, history_of};
+ghost use Rattle.ps_face.specs.Values.{valued};
 
-mod published;
-mod waiting;
-
-use crate::face::published::Published;
+use crate::sheet::changes::{cell, prepare};
 use ps_content::read_entry;
-use ps_delta::Edit;
-use ps_face::{FaceReader, Named, NewBook};
+use ps_delta::{Change, Edit};
+use ps_face::{FaceReader, FaceWriter, Named, NewBook, Patch};
 use ps_grid::{Cell, Refusal};
-use ps_value::{Fault, Label, Value};
+use ps_sheet::{Prepared, Sheet};
+use ps_shown::Kept;
+use ps_value::{Label, SharedLabel, Value};
 use std::alloc::Global;
 use std::marker::Brand;
 use std::process::Abort;
 use std::sync::Wait;
 use std::thread::Threads;
 
-fn cell(rt: &impl Abort, name: &str) -> Cell {
-    Cell::read(name.as_bytes()).expect(rt, "a cell")
+/// How a patch gets to the readers.
+#[derive(Clone, Copy)]
+enum Way {
+    /// It is appended, and then published.
+    Appended,
+    /// It is posted, and waits to be shown.
+    Posted,
 }
 
-/// An entry of a cell, and what a reader then sees of the cell, with the version: after the patch is appended, and
-/// after it is published.
-type Row = (&'static str, &'static str, [(u64, Value); 2]);
+/// What a reader sees of A1, with the version.
+type Sight = (u64, Value);
 
-/// Publishes one entry after another, and compares what a reader sees.
-fn go_through<L: Named, T: Abort + Threads + Wait + Sync>(
+/// An entry of A1, and what a reader then sees, before and after all that waits is shown.
+type Row = (&'static str, [Sight; 2]);
+
+/// What a sheet keeps of a value.
+fn keep(alloc: Global, value: Value) -> Result<Kept, Refusal>
+    ensures { IfOk result (λ k. value_of k ≡ value) }
+{
+    match value {
+        Value::Empty => Ok(Kept::Empty),
+        Value::Num(number) => Ok(Kept::Num(number)),
+        Value::Text(label) => Ok(Kept::Text(SharedLabel::new(alloc, label)?)),
+        Value::Choice(options) => Ok(Kept::Choice(options)),
+        Value::Err(fault) => Ok(Kept::Err(fault)),
+    }
+}
+
+/// The cells with what a sheet keeps of their values.
+fn keep_all(alloc: Global, changes: &[(Cell, Value)]) -> Result<Vec<(Cell, Kept)>, Refusal>
+    ensures { IfOk result (λ k. map valued k.items ≡ changes.now) }
+{
+    let mut kept = Vec::new(alloc);
+    for (cell, value) in changes {
+        let entry = (*cell, keep(alloc, *value)?);
+        kept.push(entry)?;
+    }
+    Ok(kept)
+}
+
+/// The patch of a fresh change, which has a delta that wasn't below the state.
+fn patch_of<'a>(
+    rt: &impl Abort,
+    alloc: Global,
+    prepared: &'a Prepared,
+) -> Result<Patch<'a>, Refusal>
+    ensures follows { IfOk result (λ p. Follows prepared.now.history p) }
+    ensures after { IfOk result (λ p. history_after prepared.now ≡ prepared.now.history ++ p.delta ∷ []) }
+{
+    assert!(rt; prepared.fresh());
+    let changes = keep_all(alloc, prepared.changes())?;
+    Ok(Patch::new(prepared.report().version, prepared.delta(), changes, 1))
+}
+
+/// What a reader sees.
+fn read<L: Named>(rt: &impl Abort, reader: FaceReader<L>) -> (FaceReader<L>, Sight) {
+    let seen = reader.enter().ok().expect(rt, "a writer");
+    let found = (seen.version(), seen.at(cell(rt, "A1")));
+    (seen.leave(), found)
+}
+
+/// A reader sees what is due.
+fn check_sight<L: Named>(rt: &impl Abort, reader: FaceReader<L>, due: &Sight) -> FaceReader<L> {
+    let (reader, sight) = read(rt, reader);
+    assert!(rt; sight == *due);
+    reader
+}
+
+/// Appends and publishes, or posts, the patch of a change that is prepared over the published history. A reader sees
+/// what it saw before until the patch is published.
+fn tell<L: Named, R: Wait + Drop>(
+    rt: &impl Abort,
+    alloc: Global,
+    writer: &mut FaceWriter<L, R>,
+    prepared: &Prepared,
+    way: Way,
+    reader: FaceReader<L>,
+    before: &Sight,
+) -> (FaceReader<L>, Result<(), Refusal>)
+    requires none { writer.old.pending ≡ [] }
+    requires history { prepared.now.history ≡ history_of L.opening writer.old.list }
+    ensures none { OnOk result.1 (writer.new.pending ≡ []) }
+    ensures after { OnOk result.1 (history_after prepared.now ≡ history_of L.opening writer.new.list) }
+    ensures kept { OnErr result.1 (writer.new ≡ writer.old) }
+{
+    let patch = match patch_of(rt, alloc, prepared) {
+        Ok(patch) => patch,
+        Err(refusal) => return (reader, Err(refusal)),
+    };
+    match way {
+        Way::Appended => match writer.append(patch) {
+            Ok(()) => {
+                let reader = check_sight(rt, reader, before);
+                drop(writer.publish());
+                (reader, Ok(()))
+            }
+            Err(refusal) => (reader, Err(refusal)),
+        },
+        Way::Posted => (reader, writer.post_patch(patch)),
+    }
+}
+
+/// Does the same as `tell`, and once more if the first call is refused. That refusal is `Memory`, and a reader then
+/// sees what it saw before.
+fn tell_again<L: Named, R: Wait + Drop>(
+    rt: &impl Abort,
+    alloc: Global,
+    writer: &mut FaceWriter<L, R>,
+    prepared: &Prepared,
+    way: Way,
+    reader: FaceReader<L>,
+) -> FaceReader<L>
+    requires none { writer.old.pending ≡ [] }
+    requires history { prepared.now.history ≡ history_of L.opening writer.old.list }
+    ensures none { writer.new.pending ≡ [] }
+    ensures after { history_after prepared.now ≡ history_of L.opening writer.new.list }
+{
+    let (reader, before) = read(rt, reader);
+    let (reader, ended) = tell(rt, alloc, writer, prepared, way, reader, &before);
+    match ended {
+        Ok(()) => reader,
+        Err(refusal) => {
+            assert!(rt; refusal == Refusal::Memory);
+            let reader = check_sight(rt, reader, &before);
+            let (reader, ended) = tell(rt, alloc, writer, prepared, way, reader, &before);
+            ended.expect(rt, "room for a patch");
+            reader
+        }
+    }
+}
+
+/// The change that makes an entry in A1. It is read again where the first time is out of memory.
+fn change_to(rt: &impl Abort, alloc: Global, entry: &str) -> Change {
+    let content = match read_entry(alloc, entry.as_bytes()) {
+        Ok(content) => content,
+        Err(_) => read_entry(alloc, entry.as_bytes())
+            .ok()
+            .expect(rt, "an entry"),
+    };
+    Change::Edit(Edit::Set(cell(rt, "A1"), content))
+}
+
+/// An entry in A1, prepared. It is prepared again where the first time is out of memory.
+fn entered<T: Abort + Threads + Sync>(rt: &T, alloc: Global, sheet: Sheet, entry: &str) -> Prepared
+    ensures prepared { IsPrepared result }
+    ensures history { result.history ≡ sheet.history }
+{
+    match prepare(rt, alloc, sheet, change_to(rt, alloc, entry)) {
+        Ok(prepared) => prepared,
+        Err((sheet, _)) => {
+            let again = prepare(rt, alloc, sheet, change_to(rt, alloc, entry));
+            again.ok().expect(rt, "room for a change")
+        }
+    }
+}
+
+/// A reader sees what is due, before and after all that waits is shown.
+fn check_seen<L: Named, R: Wait + Drop>(
+    rt: &impl Abort,
+    writer: &mut FaceWriter<L, R>,
+    reader: FaceReader<L>,
+    due: &[Sight; 2],
+) -> FaceReader<L>
+    ensures list { writer.new.list ≡ writer.old.list }
+    ensures pending { writer.new.pending ≡ writer.old.pending }
+{
+    let reader = check_sight(rt, reader, &due[0]);
+    writer.show();
+    check_sight(rt, reader, &due[1])
+}
+
+/// Makes an entry in A1, and looks at it through a reader.
+fn go_on<L: Named, R: Wait + Drop, T: Abort + Threads + Sync>(
+    rt: &T,
+    alloc: Global,
+    sheet: Sheet,
+    writer: &mut FaceWriter<L, R>,
+    reader: FaceReader<L>,
+    way: Way,
+    row: &Row,
+) -> (Sheet, FaceReader<L>)
+    requires none { writer.old.pending ≡ [] }
+    requires history { sheet.history ≡ history_of L.opening writer.old.list }
+    ensures none { writer.new.pending ≡ [] }
+    ensures history { result.0.history ≡ history_of L.opening writer.new.list }
+{
+    let prepared = entered(rt, alloc, sheet, row.0);
+    let reader = tell_again(rt, alloc, writer, &prepared, way, reader);
+    let (sheet, _) = prepared.commit();
+    (sheet, check_seen(rt, writer, reader, &row.1))
+}
+
+/// Opens the copies of an empty sheet, with one reader.
+fn open<'a, L: Named, T: Abort + Wait + Sync>(
+    rt: &'a T,
+    alloc: Global,
+    opened: NewBook,
+    sheet: &Sheet,
+) -> Result<(FaceWriter<L, &'a T>, FaceReader<L>), Refusal>
+    requires book { opened ≡ L.book }
+    requires opening { L.opening ≡ [] }
+    requires empty { sheet.now.history ≡ [] }
+    ensures none { IfOk result (λ r. r.0.pending ≡ []) }
+    ensures list { IfOk result (λ r. r.0.list ≡ []) }
+{
+    let shown = sheet.all_shown();
+    let (writer, mut readers) = FaceWriter::open(rt, alloc, opened, shown, 0, 1)?;
+    Ok((writer, readers.pop().expect(rt, "a reader")))
+}
+
+/// Makes the entries of two rows, and drops the sheet with its copies.
+fn go_through<L: Named, R: Wait + Drop, T: Abort + Threads + Sync>(
+    rt: &T,
+    alloc: Global,
+    sheet: Sheet,
+    mut writer: FaceWriter<L, R>,
+    reader: FaceReader<L>,
+    way: Way,
+    rows: &[Row; 2],
+)
+    requires none { writer.pending ≡ [] }
+    requires history { sheet.history ≡ history_of L.opening writer.list }
+{
+    let (sheet, reader) = go_on(rt, alloc, sheet, &mut writer, reader, way, &rows[0]);
+    drop(go_on(rt, alloc, sheet, &mut writer, reader, way, &rows[1]));
+    drop(writer);
+}
+
+/// Does so at an empty sheet, of this name.
+fn try_on<L: Named, T: Abort + Threads + Wait + Sync>(
     rt: &T,
     alloc: Global,
     opened: NewBook,
-    rows: &[Row],
+    way: Way,
+    rows: &[Row; 2],
 ) -> Result<(), Refusal>
     requires book { opened ≡ L.book }
     requires opening { L.opening ≡ [] }
 {
-    let (mut published, _) = Published::<L, &T>::open(rt, rt, alloc, opened, 1)?;
-    for (name, entry, due) in rows {
-        let here = cell(rt, name);
-        let content = read_entry(alloc, entry.as_bytes())?;
-        let (next, seen) = published.go_on(rt, alloc, Edit::Set(here, content), here)?;
-        published = next;
-        assert!(rt; seen == *due, "{name} {entry}");
+    let sheet = Sheet::open(alloc, 1, 1)?;
+    match open::<L, T>(rt, alloc, opened, &sheet) {
+        Ok((writer, reader)) => {
+            go_through(rt, alloc, sheet, writer, reader, way, rows);
+            Ok(())
+        }
+        Err(refusal) => {
+            drop(sheet);
+            Err(refusal)
+        }
     }
-    Ok(())
 }
 
-/// Does so with a new sheet.
-fn go_anew<T: Abort + Threads + Wait + Sync>(
+/// Does so with a new book.
+fn try_anew<T: Abort + Threads + Wait + Sync>(
     rt: &T,
     alloc: Global,
-    rows: &[Row],
+    opened: NewBook,
+    way: Way,
+    rows: &[Row; 2],
 ) -> Result<(), Refusal> {
-    go_through::<Brand, T>(rt, alloc, NewBook::new(), rows)
+    try_on::<Brand, T>(rt, alloc, opened, way, rows)
 }
 
-/// Does so, and once more if the first run is out of memory.
-fn check<T: Abort + Threads + Wait + Sync>(rt: &T, alloc: Global, rows: &[Row]) {
-    let mut ended = go_anew(rt, alloc, rows);
+/// Does so, and once more if the first run is out of memory before a call under test.
+fn check<T: Abort + Threads + Wait + Sync>(rt: &T, alloc: Global, way: Way, rows: &[Row; 2]) {
+    let mut ended = try_anew(rt, alloc, NewBook::new(), way, rows);
     if ended == Err(Refusal::Memory) {
-        ended = go_anew(rt, alloc, rows);
+        ended = try_anew(rt, alloc, NewBook::new(), way, rows);
     }
     assert!(rt; ended.is_ok());
+}
+
+const EMPTY: Sight = (0, Value::Empty);
+
+const FIVE: Sight = (1, Value::Num(5));
+
+fn text(rt: &impl Abort) -> Sight {
+    (2, Value::Text(Label::new(b"text").expect(rt, "a text")))
 }
 
 /// After a refused `append` a reader sees what it saw before, and the next `append` works: for a patch of a number, and
 /// of a text.
 #[test]
 fn refused_append(rt: HostRuntime) {
-    let rows = [
-        ("A1", "5", [(0, Value::Empty), (1, Value::Num(5))]),
-        ("A1", "text", [(1, Value::Num(5)), (2, text(&rt, "text"))]),
-    ];
-    check(&rt, rt.alloc(), &rows);
+    let rows = [("5", [FIVE, FIVE]), ("text", [text(&rt), text(&rt)])];
+    check(&rt, rt.alloc(), Way::Appended, &rows);
 }
 
-const CYCLE: Value = Value::Err(Fault::Cycle);
-
-fn text(rt: &impl Abort, text: &str) -> Value {
-    Value::Text(Label::new(text.as_bytes()).expect(rt, "a text"))
-}
-
-/// Texts, a set, faults and cells that become empty are published as they are.
+/// After a refused `post_patch` a reader sees what it saw before, and the next call works. A posted patch waits until
+/// it is shown.
 #[test]
-fn each_kind_of_value_is_published(rt: HostRuntime) {
-    let rows = [
-        ("A1", "text", [(0, Value::Empty), (1, text(&rt, "text"))]),
-        (
-            "B1",
-            "=[.A1]+1",
-            [(1, Value::Empty), (2, Value::Err(Fault::Value))],
-        ),
-        ("C1", "@choice", [(2, Value::Empty), (3, Value::Choice(0))]),
-        (
-            "D1",
-            "=MOD(1;0)",
-            [(3, Value::Empty), (4, Value::Err(Fault::DivZero))],
-        ),
-        ("E1", "=[.E1]", [(4, Value::Empty), (5, CYCLE)]),
-        ("A1", "", [(5, text(&rt, "text")), (6, Value::Empty)]),
-        ("E1", "7", [(6, CYCLE), (7, Value::Num(7))]),
-        // an empty cell counts as 0
-        ("B1", "=[.E1]", [(7, Value::Num(1)), (8, Value::Num(7))]),
-    ];
-    check(&rt, rt.alloc(), &rows);
-}
-
-/// What a reader sees of two cells at once, with the version.
-fn read_both<L: Named>(
-    rt: &impl Abort,
-    reader: FaceReader<L>,
-    one: Cell,
-    other: Cell,
-) -> (FaceReader<L>, (u64, Value, Value)) {
-    let seen = reader.enter().ok().expect(rt, "a writer");
-    let found = (seen.version(), seen.at(one), seen.at(other));
-    (seen.leave(), found)
-}
-
-/// Whether the cell that each patch sets to its number shows the version.
-fn shows_number(version: u64, value: Value) -> bool {
-    match value {
-        Value::Num(number) => u64::try_from(number) == Ok(version),
-        _ => version == 0,
-    }
+fn refused_post(rt: HostRuntime) {
+    let rows = [("5", [EMPTY, FIVE]), ("text", [FIVE, text(&rt)])];
+    check(&rt, rt.alloc(), Way::Posted, &rows);
 }

@@ -2,13 +2,13 @@
 
 ghost use Rattle.ps_grid.specs.Blanks.{IsBlankOf};
 
-use ps_content::{Content, read_entry};
-use ps_delta::{CellState, Delta, Edit};
+use crate::sheet::changes::Asked::{self, Add, Set, Sub};
+use crate::sheet::changes::Part::{self, Assigned};
+use crate::sheet::changes::Seen::{self, Num, Text};
+use crate::sheet::changes::{cell, check_count, check_shown, delta_of, edit_of};
+use Step::{Deliver, Edited, Foreign};
 use ps_eval::Meter;
-use ps_grid::{Cell, Refusal};
-use ps_lattice::{Assignment, Choice, Register, Tally};
-use ps_sheet::Sheet;
-use ps_value::{Label, Value};
+use ps_grid::Refusal;
 use ps_world::{Event, World, play};
 use std::alloc::Global;
 use std::marker::Brand;
@@ -19,45 +19,19 @@ use std::thread::Threads;
 /// One event, all of them at A1.
 #[derive(Clone, Copy)]
 enum Step {
-    Set(u8, &'static str),
-    Add(u8, u64),
-    Sub(u8, u64),
-    Foreign(i64),
+    Edited(u8, Asked),
+    Foreign(&'static [(&'static str, Part)]),
     Deliver(u8, usize),
 }
 
-fn cell(index: usize) -> Result<Cell, Refusal> {
-    Cell::from_index(index).ok_or(Refusal::Cell)
-}
-
-/// The delta that assigns a number to A1, stamped with time 1 and replica 1.
-fn assigned(alloc: Global, number: i64) -> Result<Delta, Refusal> {
-    let register = Register::from_parts(Assignment {
-        time: 1,
-        replica: 1,
-        content: Content::Number(number),
-    });
-    let state = CellState {
-        register: register.ok_or(Refusal::Delta)?,
-        tally: Tally::empty(alloc),
-        choice: Choice::empty(alloc),
-    };
-    let mut cells = Vec::new(alloc);
-    cells.push((cell(0)?, state))?;
-    Delta::new(alloc, cells)?.ok_or(Refusal::Delta)
-}
-
-fn event_of(alloc: Global, step: Step) -> Result<Event, Refusal> {
-    let at = cell(0)?;
+fn event_of(rt: &impl Abort, alloc: Global, step: &Step) -> Result<Event, Refusal> {
     match step {
-        Step::Set(replica, entry) => {
-            let content = read_entry(alloc, entry.as_bytes())?;
-            Ok(Event::Edit(replica, Edit::Set(at, content)))
+        Edited(replica, asked) => {
+            let edit = edit_of(alloc, cell(rt, "A1"), asked)?;
+            Ok(Event::Edit(*replica, edit))
         }
-        Step::Add(replica, amount) => Ok(Event::Edit(replica, Edit::Add(at, amount))),
-        Step::Sub(replica, amount) => Ok(Event::Edit(replica, Edit::Sub(at, amount))),
-        Step::Foreign(number) => Ok(Event::Foreign(assigned(alloc, number)?)),
-        Step::Deliver(replica, number) => Ok(Event::Deliver(replica, number)),
+        Foreign(parts) => Ok(Event::Foreign(delta_of(rt, alloc, parts)?)),
+        Deliver(replica, number) => Ok(Event::Deliver(*replica, *number)),
     }
 }
 
@@ -84,35 +58,12 @@ fn run<R: Threads + Sync>(
     metered::<R, Brand>(rt, Blank::new(1), alloc, replicas, events)
 }
 
-fn run_steps<R: Threads + Sync>(
-    rt: &R,
-    alloc: Global,
-    replicas: u8,
-    steps: &[Step],
-) -> Result<World, Refusal> {
+fn events_of(rt: &impl Abort, alloc: Global, steps: &[Step]) -> Result<Vec<Event>, Refusal> {
     let mut events = Vec::new(alloc);
     for step in steps {
-        events.push(event_of(alloc, *step)?)?;
+        events.push(event_of(rt, alloc, step)?)?;
     }
-    run(rt, alloc, replicas, events)
-}
-
-/// What a cell shows.
-#[derive(Clone, Copy)]
-enum Seen {
-    Num(i64),
-    Text(&'static str),
-}
-
-/// Whether a value is what is seen.
-fn is_seen(value: Value, seen: Seen) -> bool {
-    match seen {
-        Seen::Num(number) => value == Value::Num(number),
-        Seen::Text(text) => match Label::new(text.as_bytes()) {
-            Some(label) => value == Value::Text(label),
-            None => false,
-        },
-    }
+    Ok(events)
 }
 
 /// A replica, the numbers that it took, its version and what it shows at A1.
@@ -128,24 +79,18 @@ fn took(world: &World, replica: u8, taken: &[usize]) -> bool {
     }
 }
 
-/// Whether a sheet has this version and shows this at a cell.
-fn shows(sheet: &Sheet, at: Cell, version: u64, seen: Seen) -> bool {
-    sheet.version() == version && is_seen(sheet.shown(at), seen)
-}
-
-/// Whether a replica is as a row says.
-fn is_row(world: &World, at: Cell, row: Row) -> bool {
-    let (replica, taken, version, seen) = row;
-    match world.sheet(replica) {
-        Some(sheet) => shows(sheet, at, version, seen) && took(world, replica, taken),
-        None => false,
-    }
+/// A replica is as a row says.
+fn check_row(rt: &impl Abort, world: &World, (replica, taken, version, seen): &Row) {
+    let sheet = world.sheet(*replica).expect(rt, "a replica");
+    check_count(rt, sheet.version(), *version, "the version");
+    check_shown(rt, sheet, "A1", seen);
+    assert!(rt; took(world, *replica, taken), "replica {replica}");
 }
 
 /// The replicas of a world are as the rows say.
-fn check_rows(rt: &impl Abort, world: &World, at: Cell, rows: &[Row]) {
+fn check_rows(rt: &impl Abort, world: &World, rows: &[Row]) {
     for row in rows {
-        assert!(rt; is_row(world, at, *row), "replica {}", row.0);
+        check_row(rt, world, row);
     }
 }
 
@@ -157,55 +102,51 @@ fn play_steps<R: Abort + Threads + Sync>(
     steps: &[Step],
     rows: &[Row],
 ) -> Result<(), Refusal> {
-    let at = cell(0)?;
-    let world = run_steps(rt, alloc, replicas, steps)?;
-    check_rows(rt, &world, at, rows);
+    let world = run(rt, alloc, replicas, events_of(rt, alloc, steps)?)?;
+    check_rows(rt, &world, rows);
     Ok(())
 }
 
 static GREATER: [Step; 7] = [
-    Step::Set(1, "x"),
-    Step::Set(2, "y"),
-    Step::Deliver(1, 2),
-    Step::Deliver(2, 1),
-    Step::Deliver(2, 1),
-    Step::Deliver(3, 1),
-    Step::Deliver(1, 9),
+    Edited(1, Set("x")),
+    Edited(2, Set("y")),
+    Deliver(1, 2),
+    Deliver(2, 1),
+    Deliver(2, 1),
+    Deliver(3, 1),
+    Deliver(1, 9),
 ];
 
-static GREATER_SEEN: [Row; 2] = [
-    (1, &[1, 2], 2, Seen::Text("y")),
-    (2, &[1, 2], 1, Seen::Text("y")),
-];
+static GREATER_SEEN: [Row; 2] = [(1, &[1, 2], 2, Text("y")), (2, &[1, 2], 1, Text("y"))];
 
 static COUNTED: [Step; 9] = [
-    Step::Set(1, "@tally"),
-    Step::Deliver(2, 1),
-    Step::Deliver(3, 1),
-    Step::Add(1, 5),
-    Step::Sub(2, 2),
-    Step::Add(3, 1),
-    Step::Deliver(1, 4),
-    Step::Deliver(1, 3),
-    Step::Deliver(2, 2),
+    Edited(1, Set("@tally")),
+    Deliver(2, 1),
+    Deliver(3, 1),
+    Edited(1, Add(5)),
+    Edited(2, Sub(2)),
+    Edited(3, Add(1)),
+    Deliver(1, 4),
+    Deliver(1, 3),
+    Deliver(2, 2),
 ];
 
 static COUNTED_SEEN: [Row; 3] = [
-    (1, &[1, 2, 3, 4], 4, Seen::Num(4)),
-    (2, &[1, 2, 3], 3, Seen::Num(3)),
-    (3, &[1, 4], 2, Seen::Num(1)),
+    (1, &[1, 2, 3, 4], 4, Num(4)),
+    (2, &[1, 2, 3], 3, Num(3)),
+    (3, &[1, 4], 2, Num(1)),
 ];
 
 static STAMPED: [Step; 6] = [
-    Step::Foreign(3),
-    Step::Foreign(4),
-    Step::Deliver(1, 1),
-    Step::Deliver(1, 2),
-    Step::Deliver(2, 2),
-    Step::Deliver(2, 1),
+    Foreign(&[("A1", Assigned(1, 1, "3"))]),
+    Foreign(&[("A1", Assigned(1, 1, "4"))]),
+    Deliver(1, 1),
+    Deliver(1, 2),
+    Deliver(2, 2),
+    Deliver(2, 1),
 ];
 
-static STAMPED_SEEN: [Row; 2] = [(1, &[1, 2], 2, Seen::Num(4)), (2, &[1, 2], 1, Seen::Num(4))];
+static STAMPED_SEEN: [Row; 2] = [(1, &[1, 2], 2, Num(4)), (2, &[1, 2], 1, Num(4))];
 
 /// Two replicas assign at the same time; deltas come twice, come to an unknown replica, or don't exist. Three replicas
 /// count, and each has seen another part. Two untrusted peers' deltas with the same stamp are received in both orders.

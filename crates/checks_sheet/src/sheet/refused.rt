@@ -4,21 +4,18 @@
 //! A test passes whichever single allocation is refused in its process (`tests/test_refused.py`). If the refused one
 //! comes before the call under test, everything is done once more.
 
-use crate::sheet::jobs::{Job, at_sheet};
-use crate::sheet::script::Asked::{self, Add, Choose, Set, Sub, Unchoose};
-use crate::sheet::script::Seen::{self, Num, Options, Text};
-use crate::sheet::script::{
-    BACK, CYCLE, Figures, MORE, OVER, Part, apply, batch_of, cell, check_count, check_place,
-    check_shown, delta_of, edit_of, ended_with, merge, take,
+use crate::sheet::changes::Asked::{self, Add, Choose, Set, Sub, Unchoose};
+use crate::sheet::changes::Seen::{self, Num, Options, Text};
+use crate::sheet::changes::{
+    BACK, CYCLE, Figures, MORE, OVER, Part, batch_of, cell, check_count, check_place, check_shown,
+    delta_of, edit_of, ended_with, make, prepare,
 };
-use crate::sheet::slots::{commit, prepare, put_back, taken};
 use Tried::{Batched, Merged, One, Received};
 use Way::{Made, Prepared};
 use ps_delta::{Change, Edit};
 use ps_grid::{CELLS, Cell, Refusal};
 use ps_sheet::{Report, Sheet};
 use ps_value::Value;
-use ps_workers::Open;
 use std::alloc::Global;
 use std::process::Abort;
 use std::thread::Threads;
@@ -38,7 +35,7 @@ pub(crate) enum Tried {
 
 /// How changes are made.
 #[derive(Clone, Copy)]
-enum Way {
+pub(crate) enum Way {
     /// At once.
     Made,
     /// Prepared, and then committed.
@@ -48,11 +45,11 @@ enum Way {
 /// Changes that are tried, one after another.
 #[derive(Clone, Copy)]
 pub(crate) struct Tries {
-    way: Way,
+    pub(crate) way: Way,
     /// each with its report or its refusal
-    changes: &'static [(Tried, Result<Figures, Refusal>)],
+    pub(crate) changes: &'static [(Tried, Result<Figures, Refusal>)],
     /// what cells show at the end
-    shown: &'static [(&'static str, Seen)],
+    pub(crate) shown: &'static [(&'static str, Seen)],
 }
 
 /// The cell at a position in the order of the grid, row by row.
@@ -92,7 +89,7 @@ fn check_noted(rt: &impl Abort, sheet: &Sheet, noted: &Noted) {
 }
 
 /// The change that is tried.
-pub(crate) fn change_of(rt: &impl Abort, alloc: Global, tried: &Tried) -> Result<Change, Refusal> {
+fn change_of(rt: &impl Abort, alloc: Global, tried: &Tried) -> Result<Change, Refusal> {
     match tried {
         One(name, asked) => Ok(Change::Edit(edit_of(alloc, cell(rt, name), asked)?)),
         Batched(entries) => Ok(Change::Edit(Edit::SetAll(batch_of(rt, alloc, entries)?))),
@@ -101,93 +98,108 @@ pub(crate) fn change_of(rt: &impl Abort, alloc: Global, tried: &Tried) -> Result
     }
 }
 
-/// Makes a change at once.
-fn make<R: Abort + Threads + Sync>(
+fn made<R: Abort + Threads + Sync>(
     rt: &R,
     alloc: Global,
-    sheet: &mut Sheet,
+    mut sheet: Sheet,
     change: Change,
-) -> Result<Report, Refusal> {
-    match change {
-        Change::Edit(edit) => apply(rt, alloc, sheet, edit),
-        Change::Delta(delta) => take(rt, alloc, sheet, delta),
-        Change::Merge(delta) => merge(rt, alloc, sheet, delta),
-    }
+) -> (Sheet, Result<Report, Refusal>) {
+    let ended = make(rt, alloc, &mut sheet, change);
+    (sheet, ended)
 }
 
-/// Prepares a change and commits it. If it is refused, the sheet is back in the slot.
-fn prepare_and_commit<R: Abort + Threads + Sync>(
+fn prepared_and_committed<R: Abort + Threads + Sync>(
     rt: &R,
     alloc: Global,
-    slot: &mut Option<Sheet>,
+    sheet: Sheet,
     change: Change,
-) -> Result<Report, Refusal> {
-    match prepare(rt, alloc, taken(rt, slot), change, &Open) {
-        Ok(prepared) => Ok(commit(slot, prepared)),
-        Err((sheet, refusal)) => {
-            put_back(slot, sheet);
-            Err(refusal)
+) -> (Sheet, Result<Report, Refusal>) {
+    match prepare(rt, alloc, sheet, change) {
+        Ok(prepared) => {
+            let (sheet, report) = prepared.commit();
+            (sheet, Ok(report))
         }
+        Err((sheet, refusal)) => (sheet, Err(refusal)),
     }
 }
 
-fn change_slot<R: Abort + Threads + Sync>(
+/// Makes a change, and returns the sheet with the report or the refusal.
+fn try_one<R: Abort + Threads + Sync>(
     rt: &R,
     alloc: Global,
-    slot: &mut Option<Sheet>,
+    sheet: Sheet,
     way: Way,
     tried: &Tried,
-) -> Result<Report, Refusal> {
-    let change = change_of(rt, alloc, tried)?;
-    match way {
-        Made => make(rt, alloc, slot.as_mut().expect(rt, "a sheet"), change),
-        Prepared => prepare_and_commit(rt, alloc, slot, change),
+) -> (Sheet, Result<Report, Refusal>) {
+    match (change_of(rt, alloc, tried), way) {
+        (Ok(change), Made) => made(rt, alloc, sheet, change),
+        (Ok(change), Prepared) => prepared_and_committed(rt, alloc, sheet, change),
+        (Err(refusal), _) => (sheet, Err(refusal)),
+    }
+}
+
+/// The same as `note`, and once more if the first call is out of memory.
+fn note_surely(rt: &impl Abort, alloc: Global, sheet: &Sheet) -> Noted {
+    match note(rt, alloc, sheet) {
+        Ok(noted) => noted,
+        Err(_) => note(rt, alloc, sheet).ok().expect(rt, "room for a note"),
     }
 }
 
 /// Makes a change with the given report or refusal, and calls again if the first call is out of memory. After a refusal
-/// the sheet is as before.
-fn try_one<R: Abort + Threads + Sync>(
+/// the sheet is as it was noted.
+fn try_again<R: Abort + Threads + Sync>(
     rt: &R,
     alloc: Global,
-    slot: &mut Option<Sheet>,
+    sheet: Sheet,
+    noted: &Noted,
     way: Way,
-    tried: &Tried,
-    due: Result<Figures, Refusal>,
-) -> Result<(), Refusal> {
-    let noted = note(rt, alloc, slot.as_ref().expect(rt, "a sheet"))?;
-    let mut ended = change_slot(rt, alloc, slot, way, tried);
+    (tried, due): &(Tried, Result<Figures, Refusal>),
+) -> Sheet {
+    let (mut sheet, mut ended) = try_one(rt, alloc, sheet, way, tried);
     if ended.is_err() {
-        check_noted(rt, slot.as_ref().expect(rt, "a sheet"), &noted);
+        check_noted(rt, &sheet, noted);
     }
     if ended == Err(Refusal::Memory) {
-        ended = change_slot(rt, alloc, slot, way, tried);
+        (sheet, ended) = try_one(rt, alloc, sheet, way, tried);
     }
-    assert_eq!(rt; ended_with(ended), due);
-    Ok(())
+    assert_eq!(rt; ended_with(ended), *due);
+    sheet
 }
 
-/// Tries changes, one after another, and then looks at what cells show.
-pub(crate) fn try_all<R: Abort + Threads + Sync>(
+/// Tries changes, one after another.
+fn try_all<R: Abort + Threads + Sync>(
     rt: &R,
     alloc: Global,
-    slot: &mut Option<Sheet>,
+    mut sheet: Sheet,
+    tries: &Tries,
+) -> Sheet {
+    for change in tries.changes {
+        let noted = note_surely(rt, alloc, &sheet);
+        sheet = try_again(rt, alloc, sheet, &noted, tries.way, change);
+    }
+    sheet
+}
+
+/// Tries changes at an empty sheet, and then looks at what cells show.
+fn try_anew<R: Abort + Threads + Sync>(
+    rt: &R,
+    alloc: Global,
     tries: &Tries,
 ) -> Result<(), Refusal> {
-    for (tried, due) in tries.changes {
-        try_one(rt, alloc, slot, tries.way, tried, *due)?;
-    }
+    let sheet = try_all(rt, alloc, Sheet::open(alloc, 1, 1)?, tries);
     for (name, seen) in tries.shown {
-        check_shown(rt, slot.as_ref().expect(rt, "a sheet"), name, seen);
+        check_shown(rt, &sheet, name, seen);
     }
+    drop(sheet);
     Ok(())
 }
 
-/// Tries changes at an empty sheet, and at a second one if the first run is out of memory before a call.
-fn try_again<R: Abort + Threads + Sync>(rt: &R, alloc: Global, tries: &'static Tries) {
-    let mut ended = at_sheet(rt, alloc, 1, 1, Job::Try(tries));
+/// Does so, and at a second sheet if the first run is out of memory before a call.
+pub(crate) fn check<R: Abort + Threads + Sync>(rt: &R, alloc: Global, tries: &Tries) {
+    let mut ended = try_anew(rt, alloc, tries);
     if ended == Err(Refusal::Memory) {
-        ended = at_sheet(rt, alloc, 1, 1, Job::Try(tries));
+        ended = try_anew(rt, alloc, tries);
     }
     assert!(rt; ended.is_ok());
 }
@@ -202,7 +214,7 @@ static FIRST: Tries = Tries {
 /// A refused `open` is `Memory`, and the next one gives the empty sheet.
 #[test]
 fn refused_open(rt: HostRuntime) {
-    try_again(&rt, rt.alloc(), &FIRST);
+    check(&rt, rt.alloc(), &FIRST);
 }
 
 /// Cells of each kind.
@@ -247,7 +259,7 @@ static EDITS: Tries = Tries {
 /// After a refused edit of any form the sheet is as before, and the next call makes it.
 #[test]
 fn refused_edit(rt: HostRuntime) {
-    try_again(&rt, rt.alloc(), &EDITS);
+    check(&rt, rt.alloc(), &EDITS);
 }
 
 /// Two cells that are a cycle, and a number that keeps others from one.
@@ -285,7 +297,7 @@ static DELTAS: Tries = Tries {
 /// After a refused receipt the sheet is as before, and the next call takes the delta.
 #[test]
 fn refused_receive(rt: HostRuntime) {
-    try_again(&rt, rt.alloc(), &DELTAS);
+    check(&rt, rt.alloc(), &DELTAS);
 }
 
 /// The same deltas merged, and then a delta with one cell that is new.
@@ -305,7 +317,7 @@ static MERGES: Tries = Tries {
 /// After a refused merge the sheet is as before, and the next call takes what is new of the delta.
 #[test]
 fn refused_merge(rt: HostRuntime) {
-    try_again(&rt, rt.alloc(), &MERGES);
+    check(&rt, rt.alloc(), &MERGES);
 }
 
 /// Edits and deltas that are prepared.
@@ -326,5 +338,5 @@ static PREPARED: Tries = Tries {
 /// call prepares the change.
 #[test]
 fn refused_prepare(rt: HostRuntime) {
-    try_again(&rt, rt.alloc(), &PREPARED);
+    check(&rt, rt.alloc(), &PREPARED);
 }

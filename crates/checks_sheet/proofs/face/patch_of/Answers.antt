@@ -1,6 +1,6 @@
 use Rattle.std.proofs.Common.{rules}
 use Rattle.ps_face.proofs.Noted.{after_fresh, prepared_follows}
-use Rattle.checks_sheet.proofs.face.published.patch_of.Goals as goal
+use Rattle.checks_sheet.proofs.face.patch_of.Goals as goal
 
 pub returns-clause-follows : goal.returns-clause-follows
 returns-clause-follows g c =

@@ -1,19 +1,18 @@
-//! Scripts: steps at a sheet, with what each returns and what the cells then show.
+//! Changes of a sheet as tables write them, and what its cells then show.
 
-ghost use Rattle.std.specs.Prelude.{◌≡◌, ◌<◌};
+ghost use Rattle.std.specs.Prelude.{◌≡◌, IfErr, IfOk};
 ghost use Rattle.ps_grid.specs.Blanks.{IsBlankOf};
+ghost use Rattle.ps_sheet.specs.Prepared.{IsPrepared};
 
-use crate::sheet::gates::put_wide;
 use Asked::{Add, Choose, Set, Sub, Unchoose};
 use Part::Assigned;
 use Seen::{Empty, Failed, Num, Options, Text};
-use Step::{Ask, Enter, Receive, Show, Wide};
 use ps_content::{Content, read_entry};
-use ps_delta::{Batch, CellState, Delta, Edit};
+use ps_delta::{Batch, CellState, Change, Delta, Edit};
 use ps_eval::Meter;
 use ps_grid::{Cell, Refusal};
 use ps_lattice::{Assignment, Choice, Register, Tally};
-use ps_sheet::{Report, Sheet};
+use ps_sheet::{Prepared, Report, Sheet};
 use ps_value::{Fault, Label, Value};
 use std::alloc::Global;
 use std::marker::Brand;
@@ -55,22 +54,6 @@ pub(crate) enum Seen {
     Failed(Fault),
 }
 
-/// A step of a script.
-#[derive(Clone, Copy)]
-pub(crate) enum Step {
-    /// Asks for a change of a cell. The answer is this version or refusal.
-    Ask(&'static str, Asked, Result<u64, Refusal>),
-    /// Enters an entry into a cell. The report is this one.
-    Enter(&'static str, &'static str, Figures),
-    /// Receives a delta of several cells. The report is this one.
-    Receive(&'static [(&'static str, Part)], Figures),
-    /// Looks at a cell.
-    Show(&'static str, Seen),
-    /// Enters formulas into this many cells from `A2` on, each one more than `A1`, as one batch. The report is this
-    /// one.
-    Wide(usize, Figures),
-}
-
 /// `D1` closes a cycle and `B1` ends one.
 pub(crate) const OVER: &[(&str, Part)] = &[
     ("B1", Assigned(2, 2, "4")),
@@ -94,81 +77,64 @@ pub(crate) fn cell(rt: &impl Abort, name: &str) -> Cell {
     Cell::read(name.as_bytes()).expect(rt, "a cell")
 }
 
-/// The edit with a meter of its own.
-fn edited<L: Ledger, R: Threads + Sync>(
+/// The change made with a meter of its own.
+fn made<L: Ledger, R: Threads + Sync>(
     rt: &R,
     blank: Blank,
     alloc: Global,
     sheet: &mut Sheet,
-    edit: Edit,
+    change: Change,
 ) -> Result<Report, Refusal>
     requires { IsBlankOf blank L.name L.parts }
 {
     let mut meter = Meter::<L>::new(blank);
-    sheet.edit(rt, alloc, edit, &mut meter)
+    match change {
+        Change::Edit(edit) => sheet.edit(rt, alloc, edit, &mut meter),
+        Change::Delta(delta) => sheet.receive(rt, alloc, delta, &mut meter),
+        Change::Merge(delta) => sheet.merge(rt, alloc, delta, &mut meter),
+    }
 }
 
-/// The delta received with a meter of its own.
-fn received<L: Ledger, R: Threads + Sync>(
+pub(crate) fn make<R: Threads + Sync>(
+    rt: &R,
+    alloc: Global,
+    sheet: &mut Sheet,
+    change: Change,
+) -> Result<Report, Refusal> {
+    made::<Brand, R>(rt, Blank::new(1), alloc, sheet, change)
+}
+
+/// The change prepared with a meter of its own.
+fn prepared<L: Ledger, R: Threads + Sync>(
     rt: &R,
     blank: Blank,
     alloc: Global,
-    sheet: &mut Sheet,
-    delta: Delta,
-) -> Result<Report, Refusal>
+    sheet: Sheet,
+    change: Change,
+) -> Result<Prepared, (Sheet, Refusal)>
     requires { IsBlankOf blank L.name L.parts }
+    ensures prepared { IfOk result IsPrepared }
+    ensures history { IfOk result (λ p. p.history ≡ sheet.history) }
+    ensures kept { IfErr result (λ e. e.0 ≡ sheet) }
 {
     let mut meter = Meter::<L>::new(blank);
-    sheet.receive(rt, alloc, delta, &mut meter)
+    sheet.prepare(rt, alloc, change, &mut meter)
 }
 
-/// The delta merged with a meter of its own.
-fn merged<L: Ledger, R: Threads + Sync>(
+pub(crate) fn prepare<R: Threads + Sync>(
     rt: &R,
-    blank: Blank,
     alloc: Global,
-    sheet: &mut Sheet,
-    delta: Delta,
-) -> Result<Report, Refusal>
-    requires { IsBlankOf blank L.name L.parts }
+    sheet: Sheet,
+    change: Change,
+) -> Result<Prepared, (Sheet, Refusal)>
+    ensures prepared { IfOk result IsPrepared }
+    ensures history { IfOk result (λ p. p.history ≡ sheet.history) }
+    ensures kept { IfErr result (λ e. e.0 ≡ sheet) }
 {
-    let mut meter = Meter::<L>::new(blank);
-    sheet.merge(rt, alloc, delta, &mut meter)
+    prepared::<Brand, R>(rt, Blank::new(1), alloc, sheet, change)
 }
 
-pub(crate) fn apply<R: Threads + Sync>(
-    rt: &R,
-    alloc: Global,
-    sheet: &mut Sheet,
-    edit: Edit,
-) -> Result<Report, Refusal> {
-    edited::<Brand, R>(rt, Blank::new(1), alloc, sheet, edit)
-}
-
-pub(crate) fn take<R: Threads + Sync>(
-    rt: &R,
-    alloc: Global,
-    sheet: &mut Sheet,
-    delta: Delta,
-) -> Result<Report, Refusal> {
-    received::<Brand, R>(rt, Blank::new(1), alloc, sheet, delta)
-}
-
-pub(crate) fn merge<R: Threads + Sync>(
-    rt: &R,
-    alloc: Global,
-    sheet: &mut Sheet,
-    delta: Delta,
-) -> Result<Report, Refusal> {
-    merged::<Brand, R>(rt, Blank::new(1), alloc, sheet, delta)
-}
-
-/// The version that a change ends with.
-pub(crate) fn version_of(answer: Result<Report, Refusal>) -> Result<u64, Refusal> {
-    Ok(answer?.version)
-}
-
-pub(crate) fn figures_of(report: Report) -> Figures {
+fn figures_of(report: Report) -> Figures {
     [
         report.version,
         report.evaluated,
@@ -293,7 +259,7 @@ pub(crate) fn value(rt: &impl Abort, seen: &Seen) -> Value {
 }
 
 /// The statement about this name holds.
-pub(crate) fn check(rt: &impl Abort, holds: bool, name: &str) {
+fn check(rt: &impl Abort, holds: bool, name: &str) {
     assert!(rt; holds, "{name}");
 }
 
@@ -307,80 +273,7 @@ pub(crate) fn check_count(rt: &impl Abort, count: u64, expected: u64, name: &str
     assert_eq!(rt; count, expected, "{name}");
 }
 
-/// Asks for a change of a cell.
-pub(crate) fn ask<R: Abort + Threads + Sync>(
-    rt: &R,
-    alloc: Global,
-    sheet: &mut Sheet,
-    name: &str,
-    asked: &Asked,
-) -> Result<Report, Refusal> {
-    let edit = edit_of(alloc, cell(rt, name), asked)?;
-    apply(rt, alloc, sheet, edit)
-}
-
-/// Receives a delta of these cells.
-pub(crate) fn get_all<R: Abort + Threads + Sync>(
-    rt: &R,
-    alloc: Global,
-    sheet: &mut Sheet,
-    parts: &[(&str, Part)],
-) -> Result<Report, Refusal> {
-    let delta = delta_of(rt, alloc, parts)?;
-    take(rt, alloc, sheet, delta)
-}
-
-/// A change ended with this version, or with this refusal.
-fn check_version(
-    rt: &impl Abort,
-    ended: Result<Report, Refusal>,
-    answer: Result<u64, Refusal>,
-    name: &str,
-) {
-    assert_eq!(rt; version_of(ended), answer, "{name}");
-}
-
-/// A change had this report.
-pub(crate) fn check_figures(
-    rt: &impl Abort,
-    ended: Result<Report, Refusal>,
-    figures: Figures,
-    name: &str,
-) {
-    assert_eq!(rt; ended_with(ended), Ok(figures), "{name}");
-}
-
 /// A cell shows this value.
 pub(crate) fn check_shown(rt: &impl Abort, sheet: &Sheet, name: &str, seen: &Seen) {
     check(rt, sheet.shown(cell(rt, name)) == value(rt, seen), name);
-}
-
-fn take_step<R: Abort + Threads + Sync>(rt: &R, alloc: Global, sheet: &mut Sheet, step: &Step) {
-    match step {
-        Ask(name, asked, answer) => {
-            check_version(rt, ask(rt, alloc, sheet, name, asked), *answer, name)
-        }
-        Enter(name, entry, figures) => {
-            check_figures(rt, ask(rt, alloc, sheet, name, &Set(entry)), *figures, name)
-        }
-        Receive(parts, figures) => {
-            check_figures(rt, get_all(rt, alloc, sheet, parts), *figures, "a delta")
-        }
-        Show(name, seen) => check_shown(rt, sheet, name, seen),
-        Wide(count, figures) => {
-            check_figures(rt, put_wide(rt, alloc, sheet, *count), *figures, "a batch")
-        }
-    }
-}
-
-/// The steps, one after another.
-pub(crate) fn go_on<R: Abort + Threads + Sync>(
-    rt: &R,
-    alloc: Global,
-    sheet: &mut Sheet,
-    steps: &[Step],
-) {
-    for step in steps {
-        take_step(rt, alloc, sheet, step);
-    }
 }

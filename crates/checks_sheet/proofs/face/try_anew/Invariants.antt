@@ -1,5 +1,5 @@
-use Rattle.checks_sheet.proofs.face.waiting.try_anew.Given as goal
 use Rattle.std.specs.Prelude.{[]}
+use Rattle.checks_sheet.proofs.face.try_anew.Given as goal
 
 abbrev pub ghosts-try_on-L-Ledger : goal.ghosts-try_on-L-Ledger
 ghosts-try_on-L-Ledger g a = record { name = 0; parts = 0 }

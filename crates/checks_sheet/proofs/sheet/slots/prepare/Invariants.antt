@@ -1,4 +1,0 @@
-use Rattle.checks_sheet.proofs.sheet.slots.prepare.Given as goal
-
-abbrev pub ghosts-prepared : goal.ghosts-prepared
-ghosts-prepared g a = record { name = a.blank.name; parts = a.blank.parts }
