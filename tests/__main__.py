@@ -184,7 +184,7 @@ def rows_of_proved():
         if not linked.is_file():
             tally = tally.and_also(failed("the proved program isn't built, so it wasn't tested"))
             continue
-        ended = in_process(text, linked)
+        ended = in_process(f"{text}.", linked)
         print(ended.said, end="", flush=True)
         tally = tally.and_also(ended.tally)
     return tally
