@@ -1,4 +1,4 @@
-use Rattle.checks_commands.proofs.devices.session.Given as goal
+use Rattle.checks_sessions.proofs.running.session.Given as goal
 
 abbrev pub ghosts-ended-I-Ledger : goal.ghosts-ended-I-Ledger
 ghosts-ended-I-Ledger g a = record { name = a.input.name; parts = a.input.parts }
