@@ -109,7 +109,7 @@ class Server:
 
     def follow(self, every):
         """A follower of it that is under way, which asks so often, each so many milliseconds."""
-        return Follower([self.program, "follow", "--from", str(self.port), "--every", str(every)])
+        return Follower(self.port, [self.program, "follow", "--from", str(self.port), "--every", str(every)])
 
     def follow_until_now(self):
         """How a follower of it ended that writes what there is."""
@@ -159,7 +159,8 @@ class Follower:
     # how long one waits until it has written all, in seconds
     patience = LIMIT
 
-    def __init__(self, words):
+    def __init__(self, port, words):
+        self.port = port
         self.file = os.memfd_create("followed")
         files = {"stdin": subprocess.DEVNULL, "stdout": self.file, "stderr": subprocess.PIPE}
         self.process = subprocess.Popen(words, start_new_session=True, **files)

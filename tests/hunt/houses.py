@@ -2,6 +2,7 @@
 import time
 from pathlib import Path
 
+from program import DEVICE_FAILED, lines, silent
 from servers import comes_to
 
 from . import kept
@@ -12,8 +13,12 @@ from .talks import CLOCK, Talk
 
 # How many deltas a follower is handed at once at most.
 LARGEST_GROUP = 16
-# How a follower may end whose server is killed: it is closed, broken off, or amid a reply.
-KILLED = ((0, b""), (1, b"err 20 device\n"), (3, b"err 15 line\n"))
+
+
+def killed(port):
+    """How a follower may end whose server on this port is killed: it is closed, broken off, amid a reply, or before it
+    has connected."""
+    return (0, b""), (1, DEVICE_FAILED), (3, lines("err 15 line")), (1, silent(port))
 
 
 def followed_to(deltas, written):
@@ -161,7 +166,7 @@ class Followed:
         """Waits for its end, since its server is gone, whose file has so many changes."""
         if self.output is None:
             ended = self.follower.ended()
-            if (ended.status, ended.error) not in KILLED:
+            if (ended.status, ended.error) not in killed(self.follower.port):
                 raise Broken(f"a follower whose server is killed ends with {ended}")
             self.output, self.last = ended.output, count
 
