@@ -102,8 +102,17 @@ void *realloc(void *old, size_t size)
     return __libc_realloc(old, size);
 }
 
+/* Whether threads wake each other by this file: it is a counter, of which the system takes and gives all eight bytes. */
+static int is_counter(int file)
+{
+    struct stat about;
+    return fstat(file, &about) == 0 && (about.st_mode & S_IFMT) == 0;
+}
+
 ssize_t read(int file, void *room, size_t length)
 {
+    if (is_counter(file))
+        return syscall(SYS_read, file, room, length);
     size_t some = length_of('r', length);
     if (some == 0 && length != 0)
         return -1;
@@ -127,6 +136,8 @@ static int is_named(int file)
 
 ssize_t write(int file, const void *bytes, size_t length)
 {
+    if (is_counter(file))
+        return syscall(SYS_write, file, bytes, length);
     size_t some = length_of(meant == 'f' && is_named(file) ? 'f' : 'w', length);
     if (some == 0 && length != 0)
         return -1;

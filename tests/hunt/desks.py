@@ -68,7 +68,7 @@ class Desk:
 class DeskFollower:
     """A follower of such a sheet."""
 
-    patience = 0
+    patience, port = 0, 0
 
     def __init__(self, desk, every):
         self.desk, self.every = desk, every
