@@ -6,11 +6,14 @@ import subprocess
 from hunt import kept, shortages
 from hunt.session import Session
 from preloaded import PROGRAM
-from program import LIMIT, Ended, ProgramTest, lines, started
+from program import LIMIT, Ended, ProgramTest, lines, said_of, started
 
 # No call of the C library fails.
 NOTHING = ["s", 0, 0, 0]
 ALL = shortages.ALL
+# Why a file keeps a sheet no longer, where no call of the system failed.
+DISPLACED = "it was removed, replaced or cut, or another program wrote to it"
+NO_MEMORY = "there is no memory for its lines"
 
 
 def session_of(*given, replica=1):
@@ -47,10 +50,13 @@ class KeepingTest(ProgramTest):
         """What is told once the session was pushed changes of its own replica that the file hasn't got."""
         return lines(f"replica {replica} makes changes elsewhere, too, or lines of {self.file} were lost")
 
-    def lost(self):
+    def lost(self, reason=NO_MEMORY):
         """What is told once the file keeps the sheet no longer."""
-        why = "it can't be written, or it was removed, replaced or cut"
-        return lines("err 20 device", f"{self.file} isn't kept any more: {why}")
+        return lines("err 20 device", f"{self.file} isn't kept any more: {said_of(reason)}")
+
+    def damaged(self, number):
+        """What is told of a file whose digest line of this number isn't due there."""
+        return lines("err 14 delta", f"line {number} of {self.file}: it is not the digest of the lines before it")
 
     def run_kept(self, given=b"", *words, **how):
         """How `run --keep` ends that is given these bytes."""
@@ -63,13 +69,17 @@ class KeepingTest(ProgramTest):
     def assert_kept(self, given, replies, content, opened=0, *words):
         """These lines have these replies, and the file has this afterwards."""
         self.assertEqual(self.run_kept(given, *words), Ended(0, replies, self.opened(opened)))
-        self.assertEqual(self.file.read_bytes(), content)
+        self.assertEqual(self.lines_kept(), content)
 
     def assert_untouched(self, ended, content, *words):
         """On a file with this content it ends so, and leaves it as it was."""
         self.file.write_bytes(content)
         self.assertEqual(self.run_kept(b"get A1\n", *words), ended)
         self.assertEqual(self.file.read_bytes(), content)
+
+    def lines_kept(self):
+        """What the file has but for its digest lines, which have to be due where they stand."""
+        return kept.without_digests(self.file.read_bytes())
 
     def count_in_file(self):
         """How many changes the whole lines of the file have."""

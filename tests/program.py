@@ -16,10 +16,14 @@ LIMIT = 60
 DEVICE_FAILED = b"err 20 device\n"
 
 
+def said_of(reason):
+    """How a reason is told: for a number of `errno` the system's text, else this one."""
+    return f"{os.strerror(reason)} (os error {reason})" if isinstance(reason, int) else reason
+
+
 def unusable(file, reason):
-    """What standard error gets of a file that can't be used: for a number of `errno` the system's text, else this one."""
-    text = f"{os.strerror(reason)} (os error {reason})" if isinstance(reason, int) else reason
-    return DEVICE_FAILED + lines(f"{file}: {text}")
+    """What standard error gets of a file that can't be used."""
+    return DEVICE_FAILED + lines(f"{file}: {said_of(reason)}")
 
 
 def silent(port):

@@ -2,6 +2,7 @@
 import os
 import subprocess
 
+from hunt import kept
 from program import LIMIT, TOP, Ended, ProgramTest, lines, run
 
 
@@ -39,4 +40,4 @@ class Host(ProgramTest):
         folder = self.folder()
         name = "/".join([str(folder), *["." for _ in range(1500)], "k"])
         self.assertEqual(run("run", "--keep", name, given=b"set A1 5\n").output, lines("ok 1"))
-        self.assertEqual((folder / "k").read_bytes(), lines("replica 1", 'push [["A1",[1,1,"5"],[],[]]]'))
+        self.assertEqual(kept.without_digests((folder / "k").read_bytes()), lines("replica 1", 'push [["A1",[1,1,"5"],[],[]]]'))

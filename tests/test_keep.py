@@ -140,14 +140,14 @@ class Meanwhile(KeepingTest):
         with self.halted("l") as ended:
             self.assert_kept(lines(given[1]), b"ok 2\n", text_of(*given[:2]), 1)
             self.assertEqual(ended(lines(*given[2:])), Ended(0, b"val 6\nok 3\n", self.opened(2)))
-        self.assertEqual(self.file.read_bytes(), text_of(*given))
+        self.assertEqual(self.lines_kept(), text_of(*given))
 
     def test_a_file_that_another_one_has_just_made_is_read(self):
         given = ("set A1 5", "get A1", "set A1 6")
         with self.halted("o") as ended:
             self.assert_kept(lines(given[0]), b"ok 1\n", text_of(given[0]))
             self.assertEqual(ended(lines(*given[1:])), Ended(0, b"val 5\nok 2\n", self.opened(1)))
-        self.assertEqual(self.file.read_bytes(), text_of(*given))
+        self.assertEqual(self.lines_kept(), text_of(*given))
 
 
     def test_a_file_that_was_replaced_before_the_lock_was_had_is_refused(self):

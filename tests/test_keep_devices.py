@@ -28,7 +28,7 @@ class Failing(Spoilt):
         answered = max((int(it[3:]) for it in ended.output.split(b"\n") if it.startswith(b"ok ")), default=0)
         content = self.file.read_bytes()
         wanted = text_of(*given)
-        self.assertTrue(wanted.startswith(kept.whole_lines(content)))
+        self.assertTrue(wanted.startswith(kept.whole_lines(kept.without_digests(content))))
         count = kept.changes_in(content)
         self.assertGreaterEqual(count, answered)
         if is_cut:
@@ -36,7 +36,7 @@ class Failing(Spoilt):
         before = session_of(*given).sheet.history[:count]
         shown = self.run_kept(b"pull %d\nset Z1 7\n" % count)
         self.assertEqual(shown, Ended(0, lines(f"end {count}", f"ok {count + 1}"), self.opened(count)))
-        self.assertTrue(self.file.read_bytes().startswith(kept.text_of(1, before)))
+        self.assertTrue(self.lines_kept().startswith(kept.text_of(1, before)))
         return answered
 
     def one_by_one(self, given, **how):
@@ -66,15 +66,16 @@ class Failing(Spoilt):
                 yield start(**spoilt), counted()
 
     def test_a_file_that_may_not_grow(self):
-        most = len(text_of(*EDITS))
-        for limit in (*range(0, most, 37), most - 1, most):
-            for ended, _ in self.each_way(EDITS, **sizes_limited(limit)):
-                with self.subTest(limit=limit):
-                    if limit == most:
+        sizes = [self.file.stat().st_size for _ in self.each_way(EDITS)]
+        for limit in (*range(0, max(sizes), 37), *(size - 1 for size in sizes), *sizes):
+            for size, (ended, _) in zip(sizes, self.each_way(EDITS, **sizes_limited(limit))):
+                with self.subTest(limit=limit, size=size):
+                    if limit >= size:
                         self.assertEqual(ended, Ended(0, replies_to(*EDITS), self.opened(0)))
                         continue
                     self.assertEqual(ended.status, 1)
-                    self.assertIn(ended.error, (DEVICE_FAILED, self.opened(0) + self.lost()))
+                    failed = (unusable(self.file, errno.EFBIG), self.opened(0) + self.lost(errno.EFBIG))
+                    self.assertIn(ended.error, failed)
                     self.assert_acknowledged_is_kept(EDITS, ended, is_cut=True)
 
     def assert_fails_at_each(self, letter, error):
@@ -92,14 +93,26 @@ class Failing(Spoilt):
                             # (all at once takes fewer of them)
                             continue
                         self.assertEqual(ended.status, 1)
-                        self.assertIn(ended.error, (DEVICE_FAILED, unusable(self.file, error),
-                                                    self.opened(0) + self.lost()))
+                        self.assertIn(ended.error, (unusable(self.file, error), self.opened(0) + self.lost(error)))
                         answered.add(self.assert_acknowledged_is_kept(EDITS, ended, is_cut=True))
         # each change was once the last one that was answered, or none was
         self.assertEqual(answered, {*range(len(session_of(*EDITS).sheet.history))})
 
     def test_a_sync_that_fails_is_not_tried_again(self):
         self.assert_fails_at_each("s", errno.EIO)
+
+    def test_a_start_whose_sync_fails_is_refused(self):
+        # that of the folder, that of the file, and that of the first line where there was none
+        for content, syncs in ((None, 3), (text_of(*EDITS), 2)):
+            for number in range(1, syncs + 1):
+                fault = ("s", number, number, errno.EIO)
+                with self.subTest(content=content, number=number), self.spoiling(*fault) as (how, _):
+                    self.file.unlink(missing_ok=True)
+                    if content is not None:
+                        self.file.write_bytes(content)
+                    ended = self.run_kept(b"get A1\n", **how)
+                    self.assertEqual((ended.status, ended.output), (1, b""))
+                    self.assertIn(ended.error, (DEVICE_FAILED, unusable(self.file, errno.EIO)))
 
     def test_a_write_that_fails(self):
         self.assert_fails_at_each("f", errno.ENOSPC)
@@ -112,10 +125,10 @@ class Failing(Spoilt):
         self.file.unlink()
         with self.spoiling("s", start + 2, start + 2, errno.EIO) as (how, counted):
             ended = self.one_by_one(("set A1 1", "set A1 2", "set A1 3", "set A1 4"), **how)
-            self.assertEqual(ended, Ended(1, b"ok 1\n", self.opened(0) + self.lost()))
+            self.assertEqual(ended, Ended(1, b"ok 1\n", self.opened(0) + self.lost(errno.EIO)))
             self.assertEqual(counted().syncs, start + 2)
         # what no sync has confirmed is cut off, since a later one may go well though the system dropped it
-        self.assertEqual(self.file.read_bytes(), text_of("set A1 1"))
+        self.assertEqual(self.lines_kept(), text_of("set A1 1"))
 
     def test_a_file_that_another_program_wrote_to_is_not_cut(self):
         foreign = lines('push [["B1",[1,2,"5"],[],[]]]')
@@ -128,21 +141,23 @@ class Failing(Spoilt):
                 with self.file.open("ab") as file:
                     file.write(foreign)
                 _, error = session.communicate(lines("set A1 2"), timeout=LIMIT)
-                self.assertEqual((session.returncode, error), (1, self.opened(0) + self.lost()))
-        self.assertTrue(self.file.read_bytes().startswith(text_of("set A1 1") + foreign))
-        self.assertEqual(self.run_kept(b"rows A1:B1\n").status, 0)
+                self.assertEqual((session.returncode, error), (1, self.opened(0) + self.lost(errno.EIO)))
+        content = self.file.read_bytes()
+        self.assertEqual(kept.without_any_digests(content), text_of("set A1 1") + foreign + text_of("set A1 1", "set A1 2")[len(text_of("set A1 1")):])
+        # (the program's last digest knows nothing of the other's line)
+        self.assertEqual(self.run_kept(b"rows A1:B1\n"), Ended(3, b"", self.damaged(content.count(b"\n"))))
 
     def test_writes_and_reads_that_take_a_byte_at_a_time_change_nothing(self):
         for letter in "fr":
             for ended, _ in self.each_way(EDITS, (letter, 1, ALL, 0)):
                 with self.subTest(letter=letter):
                     self.assertEqual(ended, Ended(0, replies_to(*EDITS), self.opened(0)))
-                    self.assertEqual(self.file.read_bytes(), text_of(*EDITS))
+                    self.assertEqual(self.lines_kept(), text_of(*EDITS))
 
     def test_writes_that_are_interrupted_are_made_again(self):
         for ended, _ in self.each_way(EDITS, ("f", 1, 5, errno.EINTR)):
             self.assertEqual(ended, Ended(0, replies_to(*EDITS), self.opened(0)))
-            self.assertEqual(self.file.read_bytes(), text_of(*EDITS))
+            self.assertEqual(self.lines_kept(), text_of(*EDITS))
 
     def test_a_file_that_cannot_be_read(self):
         self.file.write_bytes(text_of(*EDITS))
@@ -250,7 +265,7 @@ class Syncs(Spoilt):
         with self.spoiling() as (how, counted):
             self.assertEqual(self.run_kept(b"", cwd=self.place, **how), Ended(0, b"", self.opened(0)))
             self.assertEqual(counted().folder, self.place.stat().st_ino)
-        self.assertEqual((self.place / self.file).read_bytes(), text_of())
+        self.assertEqual(kept.without_digests((self.place / self.file).read_bytes()), text_of())
 
 
 class Killed(KeepingTest):
@@ -270,12 +285,12 @@ class Killed(KeepingTest):
             answered = found.count(b"\n")
             answered_at_all += answered
             content = self.file.read_bytes() if self.file.exists() else b""
-            self.assertTrue(wanted.startswith(content))
+            self.assertTrue(wanted.startswith(kept.without_digests(content)))
             count = kept.changes_in(content)
             self.assertGreaterEqual(count, answered)
             unfinished += count < self.LINES
             self.assertEqual(self.run_kept(b"pull %d\n" % count), Ended(0, lines(f"end {count}"), self.opened(count)))
-            self.assertEqual(self.file.read_bytes(), kept.whole_lines(content) or text_of())
+            self.assertEqual(self.lines_kept(), kept.whole_lines(kept.without_digests(content)) or text_of())
             rounds += 1
         self.assertGreater(min(rounds, answered_at_all, unfinished), 5)
 

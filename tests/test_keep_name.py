@@ -5,7 +5,8 @@ import subprocess
 from itertools import product
 
 import peers
-from keeping import KeepingTest, replies_to, text_of
+from hunt import kept
+from keeping import DISPLACED, KeepingTest, replies_to, text_of
 from preloaded import PROGRAM
 from program import LIMIT, Ended, lines, run, started
 from servers import free_port, serving
@@ -86,7 +87,7 @@ class Taken(Beside):
                 peer.send(lines(*THEN))
                 with self.assertRaises((EOFError, ConnectionError)):
                     peer.reply()
-                self.assertEqual(ended(), Ended(1, b"", self.opened(0) + self.lost()))
+                self.assertEqual(ended(), Ended(1, b"", self.opened(0) + self.lost(DISPLACED)))
                 return left, self.content(), was.read()
 
     def content(self):
@@ -99,14 +100,16 @@ class Taken(Beside):
             with self.case(command=command, name=name):
                 left, now, was = self.assert_not_acknowledged(command, REPLACED[name])
                 self.assertEqual(now, left)
-                self.assertEqual(was, text_of(*FIRST))
+                self.assertEqual(kept.without_digests(was), text_of(*FIRST))
 
     def test_a_file_that_was_cut_or_written_to(self):
         """It has what the other program left, and isn't cut."""
         for command, name in product(COMMANDS, CHANGED):
             with self.case(command=command, name=name):
                 left, now, was = self.assert_not_acknowledged(command, CHANGED[name])
-                self.assertEqual(now, left + text_of(*FIRST, *THEN)[len(text_of(*FIRST)):])
+                self.assertTrue(now.startswith(left))
+                added = kept.without_any_digests(now[len(left):])
+                self.assertEqual(added, text_of(*FIRST, *THEN)[len(text_of(*FIRST)):])
                 self.assertEqual(was, now)
 
     def test_the_next_start_after_a_removal_begins_anew(self):
@@ -129,7 +132,7 @@ class Taken(Beside):
                     closed = lines("closed 5") if command == "serve" else b""
                     self.assertEqual(ended(), Ended(0, closed, self.opened(0)))
                 place = self.file.with_name(self.file.name + ending)
-                self.assertEqual(place.read_bytes(), text_of(*FIRST, *THEN))
+                self.assertEqual(kept.without_digests(place.read_bytes()), text_of(*FIRST, *THEN))
 
     def test_all_sessions_of_a_server_end(self):
         with serving(None, "--keep", str(self.file)) as server:
@@ -139,7 +142,7 @@ class Taken(Beside):
             self.file.unlink()
             one.send(lines(*THEN))
             self.assertEqual([client.told() for client in (one, silent, asking)], [b""] * 3)
-            self.assertEqual(server.ended(), Ended(1, b"", self.opened(0) + self.lost()))
+            self.assertEqual(server.ended(), Ended(1, b"", self.opened(0) + self.lost(DISPLACED)))
 
     def test_amid_lines_that_come_at_once(self):
         """The file that was there has just what was answered."""
@@ -154,11 +157,11 @@ class Taken(Beside):
                     self.file.unlink()
                     rest, error = session.communicate(timeout=LIMIT)
                     answered += rest
-                    self.assertEqual((session.returncode, error), (1, self.opened(0) + self.lost()))
+                    self.assertEqual((session.returncode, error), (1, self.opened(0) + self.lost(DISPLACED)))
                     count = answered.count(b"\n")
                     self.assertLess(count, len(given))
                     self.assertEqual(answered, lines(*(f"ok {number}" for number in range(1, count + 1))))
-                    self.assertEqual(was.read(), text_of(*given[:count]))
+                    self.assertEqual(kept.without_digests(was.read()), text_of(*given[:count]))
 
 
 class Own(Beside):
@@ -172,7 +175,7 @@ class Own(Beside):
             peer.stop_sending()
             closed = lines(f"closed {count}") if command == "serve" else b""
             self.assertEqual(ended(), Ended(0, closed, self.opened(opened)))
-        self.assertTrue(self.file.read_bytes().startswith(before))
+        self.assertTrue(self.lines_kept().startswith(before))
         self.assertEqual(self.count_in_file(), count)
 
     def test_a_torn_end_that_a_start_cuts_off(self):
@@ -199,4 +202,4 @@ class Own(Beside):
                 self.assert_answered(peer, *THEN, before=FIRST)
                 peer.stop_sending()
                 self.assertEqual(ended().status, 0)
-            self.assertEqual(self.file.read_bytes(), text_of(*FIRST, *THEN))
+            self.assertEqual(self.lines_kept(), text_of(*FIRST, *THEN))

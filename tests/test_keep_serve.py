@@ -10,6 +10,7 @@ import threading
 import time
 
 import preloaded
+from browser_socket import WebSocket
 from hunt import kept
 from hunt.deltas import delta_line
 from keeping import KeepingTest, Spoilt, text_of
@@ -43,7 +44,7 @@ class Serve(KeepingTest):
             one, two = server.client(), server.client()
             for number, line in enumerate(first, 1):
                 self.assertEqual((one, two)[number % 2].ask(line), f"ok {number}")
-                self.assertEqual(self.file.read_bytes(), text_of(*first[:number]))
+                self.assertEqual(self.lines_kept(), text_of(*first[:number]))
             self.assertEqual((one.leave(), two.leave()), (b"", b""))
             self.assert_closed(server, 0, len(first))
         with self.serving(1) as server:
@@ -55,13 +56,13 @@ class Serve(KeepingTest):
                 "rows 1", "5,10,4,{7}", "replica 1", "err 16 command", "ok 7", "err 14 delta", "err 5 not-tally",
                 'delta 7 [["C1",null,[[1,5,0]],[]]]', "ok 8"))
             self.assert_closed(server, 6, 8)
-        self.assertEqual(self.file.read_bytes(), text_of(*first, "add C1 1", "unchoose D1 7"))
+        self.assertEqual(self.lines_kept(), text_of(*first, "add C1 1", "unchoose D1 7"))
 
     def test_a_start_without_a_session_that_changes_anything(self):
         with self.serving(1) as server:
             self.assertEqual(server.client().leave(), b"")
             self.assert_closed(server, 0, 0)
-        self.assertEqual(self.file.read_bytes(), text_of())
+        self.assertEqual(self.lines_kept(), text_of())
 
     def test_a_file_of_another_replica_or_with_a_faulty_line(self):
         for content, told in ((text_of("set A1 5", replica=3), ("err 9 replica", f"{self.file} is of replica 3")),
@@ -213,7 +214,7 @@ class Failing(Spoilt):
                         self.assertEqual(other.ask(f"set A1 {number}"), f"ok {number}")
                     self.fail("no sync has failed")
                 self.assertEqual(silent.told(), b"")
-                self.assertEqual(server.ended(), Ended(1, b"", self.opened(0) + self.lost()))
+                self.assertEqual(server.ended(), Ended(1, b"", self.opened(0) + self.lost(errno.EIO)))
 
     def test_a_sync_that_fails_ends_it_and_what_was_answered_is_kept(self):
         for first in (4, 5, 9):
@@ -232,8 +233,8 @@ class Failing(Spoilt):
                         for other in (server.client(), server.client()):
                             other.leave()
                     ended = server.ended()
-                    self.assertEqual((ended.status, ended.error), (1, self.opened(0) + self.lost()))
-                content = self.file.read_bytes()
+                    self.assertEqual((ended.status, ended.error), (1, self.opened(0) + self.lost(errno.EIO)))
+                content = self.lines_kept()
                 edits = [f"set A1 {number}" for number in range(answered + 1)]
                 self.assertTrue(text_of(*edits).startswith(content))
                 self.assertGreaterEqual(kept.changes_in(content), answered)
@@ -241,7 +242,7 @@ class Failing(Spoilt):
     def test_each_sync_and_write_that_fails_amid_sessions_leaves_what_they_were_answered(self):
         """Each receipt is the place of its change in the file. (A start makes so many calls.)"""
         clients, edits = 4, 6
-        for letter, start in (("s", 3), ("f", 1)):
+        for letter, start in (("s", 3), ("f", 2)):
             # (each client waits for its edit before the next)
             for first in range(start + 1, start + 1 + edits):
                 with self.subTest(letter=letter, first=first), self.spoiling(letter, first, first, errno.EIO) as (how, _):
@@ -254,8 +255,8 @@ class Failing(Spoilt):
                             thread.start()
                         for thread in threads:
                             thread.join(LIMIT)
-                        self.assertEqual(server.ended(), Ended(1, b"", self.opened(0) + self.lost()))
-                    content = self.file.read_text().split("\n")
+                        self.assertEqual(server.ended(), Ended(1, b"", self.opened(0) + self.lost(errno.EIO)))
+                    content = self.lines_kept().decode().split("\n")
                     self.assertEqual(content[-1], "")
                     for number, cell in answered.items():
                         self.assertEqual(content[number], f'push [["{cell}",[1,1,"7"],[],[]]]')
@@ -284,7 +285,7 @@ class Failing(Spoilt):
         for span, (file, short) in zip(spans, each(lambda *span: start(scripts, *span), spans)):
             with self.subTest(span=span):
                 self.file = file
-                content, count, told = file.read_text().split("\n"), self.count_in_file(), self.opened(0)
+                content, count, told = self.lines_kept().decode().split("\n"), self.count_in_file(), self.opened(0)
                 closed, memory = Ended(0, lines(f"closed {count}"), told), Ended(3, b"", told + lines("err 19 memory"))
                 failed = [Ended(1, b"", told + fault) for fault in (DEVICE_FAILED, self.lost())]
                 self.assertIn(short.ended, (closed, memory, *failed))
@@ -398,6 +399,19 @@ class Syncing(KeepingTest):
             self.assertEqual([writer.reply(), writer.reply()], ["ok 2", "ok 3"])
             self.assertEqual([looker.reply() for _ in range(4)], ["entries 3", "1", "2", "3"])
 
+    def test_a_browser_that_follows_hears_of_a_change_once_it_is_kept(self):
+        with self.halting() as (server, ours):
+            writer = server.client()
+            self.assertEqual(writer.ask("get A1"), "val ")
+            with WebSocket(server.port, path="/news") as news:
+                self.assertEqual(news.receive(), "version 0")
+                writer.send(b"set A1 1\n")
+                self.assertEqual(ours.recv(1), b"s")
+                self.assertFalse(select.select([news.connection], [], [], self.LOOK)[0])
+                threading.Thread(target=self.release, args=(ours, []), daemon=True).start()
+                self.assertEqual(news.receive(), "version 1")
+            self.assertEqual(writer.reply(), "ok 1")
+
     def release(self, ours, syncs):
         """Has the sync go on that has halted, and each one after it, which it counts."""
         ours.send(b"!")
@@ -446,7 +460,7 @@ class Killed(KeepingTest):
         given = self.file.read_bytes()
         ended = self.run_kept(b"rows A1:I1\n")
         self.assertEqual((ended.status, ended.error), (0, self.opened(len(deltas))))
-        whole = kept.whole_lines(given).decode().split("\n")[:-1]
+        whole = kept.whole_lines(kept.without_digests(given)).decode().split("\n")[:-1]
         self.assertTrue(run("run", given=lines(*whole, "rows A1:I1")).output.endswith(ended.output))
 
     def ask_on(self, server, number, turn, answered):

@@ -17,6 +17,8 @@ NO_SEAT = lines("err 21 seat")
 MOST_WAITING, MOST_UNHEARD = 512, 200
 # The longest that a server takes to see that something has changed, in seconds, on a machine that does much else.
 SOON = LIMIT / 2
+# What is surely less, in seconds, than the 25 after which a wait ends by itself.
+BEFORE_ITS_END = 15
 
 
 class Memory:
@@ -290,6 +292,8 @@ class Waiting(ProgramTest):
 
             self.assertTrue(comes_to(told))
             [over] = told()
+            # the one that has been silent longest
+            self.assertEqual(others.index(over), 0)
             self.assertEqual(over.told(), NO_SEAT)
             others.remove(over)
             others.pop().close()
@@ -462,7 +466,25 @@ class Gone(ProgramTest):
                     begun = time.monotonic()
                     end(waits)
                     self.assertEqual(other.reply(), "val ")
-                    self.assertLess(time.monotonic() - begun, 1 + SOON)
+                    self.assertLess(time.monotonic() - begun, BEFORE_ITS_END)
+
+    def test_the_slot_of_each_of_several_that_wait_is_free_soon_after_it_has_gone(self):
+        with serving(None, "--seats", "8", "--wait", "60") as server:
+            waiting = [server.client() for _ in range(8)]
+            for client in waiting:
+                self.assertEqual(client.ask("get A1"), "val ")
+                client.send(b"wait 0\n")
+            self.assertFalse(waiting[-1].is_answered_within(0.3))
+            for client in waiting:
+                other = server.client()
+                other.send(b"get A1\n")
+                self.assertFalse(other.is_answered_within(0.1))
+                begun = time.monotonic()
+                client.close()
+                self.assertEqual(other.reply(), "val ")
+                self.assertLess(time.monotonic() - begun, BEFORE_ITS_END)
+                # so that all slots have one that waits again
+                other.send(b"wait 0\n")
 
 
 class Both(ProgramTest):
@@ -554,6 +576,22 @@ class Last(ProgramTest):
             self.assertTrue(server.is_running())
             second.leave()
             self.assertEqual(server.ended(), Ended(0, lines("closed 1")))
+
+    def test_who_waits_as_the_last_session_begins_is_told(self):
+        with serving(2, "--seats", "1", "--wait", "60") as server:
+            first, last, late = server.client(), server.client(), server.client()
+            self.assertEqual(first.ask("get A1"), "val ")
+            for client in (last, late):
+                client.send(b"get A1\n")
+                self.assertFalse(client.is_answered_within(0.3))
+            self.assertEqual(first.leave(), b"")
+            self.assertEqual(last.reply(), "val ")
+            begun = time.monotonic()
+            self.assertEqual(late.told(), NO_SEAT)
+            self.assertLess(time.monotonic() - begun, SOON)
+            self.assertEqual(last.ask("set A1 1"), "ok 1")
+            self.assertEqual(last.leave(), b"")
+            self.assertEqual(server.ended(), Ended(0, lines("closed 1"), b""))
 
 
 class Many(ProgramTest):

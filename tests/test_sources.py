@@ -35,6 +35,8 @@ KNOWN = {
         ("fn from(_error: AllocFailed<T>) -> Refusal {", "Refusal::Memory"): "the same, with a value given back"},
     "ps_index/src/column.rt": {
         ("if self.spans.len() >= u32::MAX as usize {", "return Err(Refusal::Memory);"): "more spans than a number counts"},
+    "ps_keep/src/digested.rt": {
+        ("fn from(_: AllocError) -> DigestFault {", "DigestFault::Memory"): "the conversion of the allocator's error"},
     "ps_keep/src/file.rt": {
         ("if error.kind() == ErrorKind::OutOfMemory {", "FileFault::Memory"): "the system's word"},
     "ps_kept/src/fault.rt": {

@@ -21,6 +21,9 @@ SEED = 39
 LONGEST = 40
 REFUSED = b"err 14 delta\nline %d\n"
 LONG = "=" + "+".join(["[.CZ1024]"] * 25)
+# Lines of a kept file that say nothing of its sheet. (The second one's digits are a number, too, and the last one's are
+# that of a replica.)
+DIGESTS = (b"replica 0123456789abcdef", b"replica 9876543210987654", b"replica 0000000000000003")
 
 
 def grouped(state):
@@ -141,7 +144,7 @@ class Squash(ProgramTest):
     def test_a_replica_anywhere_else(self):
         """Which of two lines would hold can't be told, so it is refused as any line that is none of a delta."""
         good = b'push [["A1",[1,1,"5"],[],[]]]\n'
-        for before in (b"replica 1\n", b"replica 2\n", good, b"\n", b"\r\n"):
+        for before in (b"replica 1\n", b"replica 2\n", good, b"\n", b"\r\n", DIGESTS[0] + b"\n"):
             for after in (b"", good):
                 with self.subTest(before=before, after=after):
                     self.assertEqual(run("squash", given=before + b"replica 1\n" + after),
@@ -157,6 +160,41 @@ class Squash(ProgramTest):
             with self.subTest(faulty=faulty[:40]):
                 self.assertEqual(run("squash", given=faulty + b"\r\n" + b'push [["A1",[1,1,"5"],[],[]]]\n'),
                                  Ended(3, b"", REFUSED % 1))
+
+    def test_digests_are_passed_over(self):
+        """Wherever they stand, with a carriage return or at the end without a line feed; none is written."""
+        given = lines('push [["A1",[1,1,"5"],[],[]]]', '[["B1",[1,2,"7"],[],[]]]', 'push [["A1",[2,1,"6"],[],[]]]')
+        small = lines('push [["A1",[2,1,"6"],[],[]],["B1",[1,2,"7"],[],[]]]')
+        for digest in DIGESTS:
+            for end in (b"\n", b"\r\n", b"\n" + DIGESTS[0] + b"\n", b"\n\n"):
+                with self.subTest(digest=digest, end=end):
+                    between = b"".join(line + b"\n" + digest + end for line in given.splitlines())
+                    self.assert_squashed(between, small)
+                    self.assert_squashed(digest + end + between, small)
+                    self.assert_squashed(b"replica 3\n" + digest + end + between, b"replica 3\n" + small)
+                    self.assert_squashed(b"replica 3\n" + given + digest, b"replica 3\n" + small)
+                    self.assert_squashed(b"replica 3\n" + digest + end, b"replica 3\n")
+                    self.assert_squashed(digest + end, b"")
+
+    def test_lines_are_counted_with_digests(self):
+        """The number of a refused line is that in the input."""
+        good = b'push [["A1",[1,1,"5"],[],[]]]\n'
+        for digest in DIGESTS:
+            given = b"replica 1\n" + (good + digest + b"\n") * 8
+            with self.subTest(digest=digest):
+                for faulty in (b"x", b"replica 1", b"push " + digest):
+                    self.assertEqual(run("squash", given=given + faulty + b"\n" + good), Ended(3, b"", REFUSED % 18))
+
+    def test_what_is_no_digest(self):
+        """Other digits, or not just sixteen, or another blank: the line is no delta's."""
+        good = b'push [["A1",[1,1,"5"],[],[]]]\n'
+        for faulty in (b"replica 0123456789abcde", b"replica 0123456789abcdef0", b"replica 0123456789ABCDEF",
+                       b"replica 0123456789abcdeF", b"replica 0123456789abcdeg", b"replica 0123456789abcde:",
+                       b"replica 0123456789abcde`", b"replica /123456789abcdef", b"replica  0123456789abcdef",
+                       b"replica 0123456789abcdef ", b" replica 0123456789abcdef", b"replica 0123456789abcdef\r",
+                       b"Replica 0123456789abcdef", b"replica0123456789abcdef", b"replica 0123456789abcdef 1"):
+            with self.subTest(faulty=faulty):
+                self.assertEqual(run("squash", given=good + faulty + b"\r\n" + good), Ended(3, b"", REFUSED % 2))
 
     def test_a_kept_sheet(self):
         """Squashed between two runs it is a shorter file of the same replica, with the same sheet."""
@@ -304,6 +342,15 @@ class InPart(ProgramTest):
     def test_the_first_line_of_a_kept_file(self):
         """It stays, whichever replica is left out, and is no change line."""
         given = lines("replica 7", f"push {self.HOSTILE}", f"push {self.FIRST}")
+        self.assertEqual(run("squash", "--until", "1", given=given),
+                         Ended(0, lines("replica 7", f"push {self.HOSTILE}"), lines("squash: left out 1 of 2 lines")))
+        self.assertEqual(run("squash", "--without", "7", given=given),
+                         Ended(0, lines("replica 7", f"push {self.FIRST}"), lines("squash: left out parts of 1 cells")))
+
+    def test_digests_are_no_change_lines(self):
+        """`--until` doesn't count them."""
+        digest = DIGESTS[0].decode()
+        given = lines("replica 7", digest, f"push {self.HOSTILE}", digest, digest, f"push {self.FIRST}", digest)
         self.assertEqual(run("squash", "--until", "1", given=given),
                          Ended(0, lines("replica 7", f"push {self.HOSTILE}"), lines("squash: left out 1 of 2 lines")))
         self.assertEqual(run("squash", "--without", "7", given=given),
@@ -480,7 +527,7 @@ class InPlace(ProgramTest):
             signal.signal(signal.SIGXFSZ, signal.SIG_IGN)
             resource.setrlimit(resource.RLIMIT_FSIZE, (5000, 5000))
 
-        self.assertEqual(self.squash(preexec_fn=limit), Ended(1, b"", DEVICE_FAILED))
+        self.assertEqual(self.squash(preexec_fn=limit), Ended(1, b"", unusable(self.file, errno.EFBIG)))
         self.assertEqual(self.file.read_bytes(), content)
         self.assert_alone()
 

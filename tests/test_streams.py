@@ -4,6 +4,7 @@ import itertools
 import os
 import subprocess
 
+from hunt import kept
 from program import LIMIT, SHEET, ProgramTest, lines, run
 from servers import Client, free_port, page_of, serving
 
@@ -48,7 +49,8 @@ class Closed(ProgramTest):
         for closed in self.each():
             file = self.folder() / "kept.lines"
             self.assert_ends(closed, "run", "--keep", str(file), given=LINE, written=b"ok 1\n")
-            self.assertEqual(file.read_bytes(), b"replica 1\n" + (b"" if 0 in closed else PUSHED))
+            content = b"replica 1\n" + (b"" if 0 in closed else PUSHED)
+            self.assertEqual(kept.without_digests(file.read_bytes()), content)
             # and the next start takes it
             self.assertEqual(run("run", "--keep", str(file)).status, 0)
 
@@ -59,9 +61,9 @@ class Closed(ProgramTest):
 
     def test_serve(self):
         for closed in self.each():
-            for kept in (False, True):
+            for keeps in (False, True):
                 file, port = self.folder() / "kept.lines", free_port()
-                words = ["serve", "--port", str(port), "--sessions", "1", *(["--keep", str(file)] if kept else [])]
+                words = ["serve", "--port", str(port), "--sessions", "1", *(["--keep", str(file)] if keeps else [])]
                 with opened(words, closed) as server:
                     if 1 not in closed:
                         self.assertEqual(server.stdout.readline(), lines(f"listening {port}"))
@@ -71,8 +73,9 @@ class Closed(ProgramTest):
                     output, error = server.communicate(timeout=LIMIT)
                     self.assertEqual((server.returncode, output), (1, b"") if 1 in closed else (0, lines("closed 1")))
                     self.assertEqual(error.startswith(page_of(port)), not {1, 2}.intersection(closed), error)
-                if kept:
-                    self.assertEqual(file.read_bytes(), b"replica 1\n" + (b"" if 1 in closed else PUSHED))
+                if keeps:
+                    content = b"replica 1\n" + (b"" if 1 in closed else PUSHED)
+                    self.assertEqual(kept.without_digests(file.read_bytes()), content)
 
     def test_sync_join_follow_and_talk(self):
         with serving(None) as first, serving(None, "--replica", "2") as second:

@@ -13,6 +13,8 @@ LONGEST, SOON, LOOK = 25, 10, 0.4
 # For how many seconds it is looked what waits cost, and the most turns of a processor that a server has meanwhile,
 # whoever waits.
 QUIET, MOST_TURNS = 3, 10
+# So many edits come at once, so many sessions wait for more changes than these, and the most turns meanwhile.
+EDITS, WAITING, MOST_TURNS_OF_EDITS = 5_000, 15, 2_500
 
 
 class Waits(ProgramTest):
@@ -127,6 +129,21 @@ class Waits(ProgramTest):
                 self.assertEqual(reader.ask("wait 0"), "version 1")
             self.assertTrue(comes_to(lambda: (process.threads(), process.files()) == (threads + 1, files + 1)))
 
+    def test_edits_that_come_at_once_wake_those_who_wait_far_more_seldom_than_each(self):
+        with serving(None, program=PROGRAM) as server:
+            process, readers = Memory(server.session.pid), [server.client() for _ in range(WAITING)]
+            for reader in readers:
+                self.assertEqual(reader.ask("get A1"), "val ")
+                reader.send(lines(f"wait {2 * EDITS}"))
+            writer = server.client()
+            self.assertEqual(writer.ask("get A1"), "val ")
+            before = process.turns()
+            writer.send(lines(*(f"set A1 {number}" for number in range(EDITS)), "get A1"))
+            for number in range(EDITS):
+                self.assertEqual(writer.reply(), f"ok {number + 1}")
+            self.assertEqual(writer.reply(), f"val {EDITS - 1}")
+            self.assertLess(process.turns() - before, MOST_TURNS_OF_EDITS)
+
     def test_a_server_at_which_nothing_happens_takes_no_turn_of_a_processor(self):
         for kept in (False, True):
             with self.subTest(kept=kept), TemporaryDirectory() as room:
@@ -173,7 +190,8 @@ class Waits(ProgramTest):
             begun = time.monotonic()
             client.send(b"wait 0\n")
             self.assertEqual(client.reply(), "version 0")
-            self.assertGreater(time.monotonic() - begun, LONGEST - 1)
+            lasted = time.monotonic() - begun
+            self.assertTrue(LONGEST - 1 < lasted < LONGEST + SOON, lasted)
             self.assertEqual(client.leave(), b"")
 
     def test_a_server_that_ends_ends_it(self):

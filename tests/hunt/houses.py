@@ -110,7 +110,7 @@ class House:
         error = self.server.kill()
         content = self.file.read_bytes() if self.file.exists() else b""
         count = kept.changes_in(content)
-        self.left.append((kept.whole_lines(content), content))
+        self.left.append((kept.whole_lines(kept.without_any_digests(content)), content))
         # (it may be amid the line, and not have begun it, since it tells first that it listens)
         if not any(told.startswith(error) for told in self.all_told()):
             raise Broken(f"a server that opens {self.opened} changes tells\n{error!r}")
@@ -138,7 +138,7 @@ class House:
         """The file has all changes, and had a beginning of them after each crash."""
         if self.file is None:
             return
-        wanted, found = kept.text_of(replica, self.deltas), self.file.read_bytes()
+        wanted, found = kept.text_of(replica, self.deltas), kept.without_digests(self.file.read_bytes())
         if found != wanted:
             raise Wrong(f"the file ends with\n{found[-600:]!r}\nand has to with\n{wanted[-600:]!r}")
         for whole, content in self.left:

@@ -1,5 +1,11 @@
 """Files that keep a sheet ("A kept sheet"): what one has to have, and what is left of one that a crash has torn."""
+import hashlib
+import re
+
 from .deltas import delta_line, read_delta
+
+# A digest line, with its line feed.
+DIGEST_LINE = re.compile(rb"(?m)^replica [0-9a-f]{16}\n")
 
 
 def text_of(replica, deltas):
@@ -12,6 +18,34 @@ def whole_lines(content):
     return content[:content.rfind(b"\n") + 1]
 
 
+def digest_line(since):
+    """The digest line that is due after these bytes, which are those since the one before, with that one."""
+    return b"replica %s\n" % hashlib.md5(since).hexdigest()[:16].encode()
+
+
+def without_digests(content):
+    """What a file has but for its digest lines, each of which has to be due where it stands.
+
+    A piece after the last line feed goes too if it begins the digest line that is due.
+    """
+    found, since = [], b""
+    for row in content.splitlines(keepends=True):
+        due = digest_line(since)
+        if DIGEST_LINE.fullmatch(row):
+            if row != due:
+                raise AssertionError(f"{row!r} stands where {due!r} is due")
+            since = b""
+        elif row.endswith(b"\n") or not found or not due.startswith(row):
+            found.append(row)
+        since += row
+    return b"".join(found)
+
+
+def without_any_digests(content):
+    """The same, whether they are due or not, as where another program has written meanwhile."""
+    return DIGEST_LINE.sub(b"", content)
+
+
 def changes_in(content):
     """How many whole lines of a file push a delta."""
     return whole_lines(content).count(b"\npush ")
@@ -19,7 +53,8 @@ def changes_in(content):
 
 def deltas_in(content):
     """The deltas that the whole lines of a file push, without the first line."""
-    return [read_delta(line.removeprefix(b"push ")) for line in whole_lines(content).split(b"\n")[1:-1]]
+    rows = whole_lines(without_any_digests(content)).split(b"\n")
+    return [read_delta(line.removeprefix(b"push ")) for line in rows[1:-1]]
 
 
 def told(path, count, elsewhere=None):

@@ -88,7 +88,7 @@ class Replica:
         """The file has each change, and what follows its last line feed only where it isn't whole."""
         content = self.file.read_bytes() if self.file.exists() else b""
         wanted = kept.text_of(self.number, self.session.sheet.history)
-        found = content if is_whole else kept.whole_lines(content)
+        found = kept.without_digests(content if is_whole else kept.whole_lines(content))
         is_torn = self.torn is not None and found.startswith(wanted) and found.count(b"\n") == wanted.count(b"\n") + 1
         if found != wanted and not is_torn:
             raise Trouble(f"the file of replica {self.number} ends with\n{found[-600:]!r}\nand has to with\n"

@@ -1,4 +1,6 @@
 """The lines of a session and their replies ("Session lines")."""
+import re
+
 from sizes import LONGEST_DELTA, LONGEST_LINE
 
 from . import contents, deltas
@@ -9,6 +11,7 @@ from .places import CELL_OF, spanned
 from .records import written_record
 
 LARGEST_GROUP, LARGEST_NUMBER = 16, 2**64 - 1
+DIGEST = re.compile(rb"[0-9a-f]{16}")
 
 
 class Refused(Exception):
@@ -117,7 +120,8 @@ class Session:
         return b"end %d" % begin if begin == len(history) else contents.TOO_LONG
 
     def replica(self, named=b"1"):
-        number_of(named, contents.NO_REPLICA, 1, REPLICAS)
+        if not DIGEST.fullmatch(named):
+            number_of(named, contents.NO_REPLICA, 1, REPLICAS)
         return b"replica %d" % self.sheet.replica
 
     # what each asks for, and how many words it has at least and at most after its first one

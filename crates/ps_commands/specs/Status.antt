@@ -19,7 +19,7 @@ use Rattle.ps_commands.specs.declared.port.PortFault.{PortFault}
 abbrev pub kept_status : KeptTrouble → ℕ
 kept_status troubles.Busy = 1
 kept_status (troubles.Unusable cause) = 1
-kept_status troubles.Lost = 1
+kept_status (troubles.Lost cause) = 1
 kept_status _ = 3
 
 -- 1 where a device failed, 3 at any other refusal

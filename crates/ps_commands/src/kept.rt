@@ -1,7 +1,10 @@
 //! The file that a sheet is kept in, and why it isn't taken.
 ghost use Rattle.std.specs.Prelude.{◌≡◌, ◌⊎◌, ℕ, List, IfErr, IfOk};
 ghost use Rattle.ps_kept.specs.Starts.{Reads};
-ghost use Rattle.ps_commands.specs.Kept.{IsFileRefusal, IsKeptSheet, IsUnusable, TellsLoss, TellsTrouble};
+ghost use Rattle.ps_keep.specs.Digests.{IsClean};
+ghost use Rattle.ps_commands.specs.Kept.{IsFileRefusal, IsInFile, IsKeptSheet, IsMoved, IsUnusable, ReadsFile};
+ghost use Rattle.ps_commands.specs.Kept.{RefusesFile};
+ghost use Rattle.ps_commands.specs.Kept.{TellsDamage, TellsLoss, TellsTrouble};
 ghost use Rattle.ps_commands.specs.Status.{kept_status};
 ghost use Rattle.ps_commands.specs.declared.fault.ProgramFault.TheVariants.{Refused};
 
@@ -9,7 +12,10 @@ use crate::fault::ProgramFault;
 use crate::squash::squash_first;
 use ps_eval::Meter;
 use ps_grid::Refusal;
-use ps_keep::{FileCause, FileFault, Found, FoundFile, KeptFile};
+use ps_keep::{
+    DigestFault, DigestedDevice, DigestedFile, FailureReason, FileCause, FileFault, Found,
+    FoundFile, KeptFile, LineNumbers,
+};
 use ps_kept::{KeepFault, SheetKeeper, open_kept};
 use ps_session::Resources;
 use ps_sheet::Sheet;
@@ -21,19 +27,30 @@ use std::rt::Files;
 use std::sync::ledger::Ledger;
 use std::thread::Threads;
 
+/// The path of a kept file, as it was given, and the reason for which its calls failed, if they did.
+#[derive(Clone, Copy)]
+pub struct KeptName<'a> {
+    /// The path.
+    pub path: &'a str,
+    /// The reason.
+    pub reason: &'a FailureReason,
+}
+
 /// Why a file isn't taken to keep a sheet in, or why it keeps one no longer.
 #[derive(Clone, Copy, Debug, PartialEq, Eq)]
 pub enum KeptTrouble {
     /// The line of this number, 1 or more, is none that may stand there.
     Line(u64),
+    /// The digest line of this number, 1 or more, isn't that of the lines before it.
+    Damaged(u64),
     /// It is the sheet of this replica.
     Replica(u8),
     /// Another program keeps it.
     Busy,
     /// It can't be opened, read or written.
     Unusable(FileCause),
-    /// While it kept a sheet it couldn't be written, or it was removed, replaced or cut.
-    Lost,
+    /// While it kept a sheet it couldn't be written, or it was removed, replaced or cut; without a reason memory lacked.
+    Lost(Option<FileCause>),
 }
 
 /// A file that is refused for a sheet, or keeps it no longer, and why. Its text is two lines, without the last line
@@ -53,8 +70,8 @@ impl FileNotTaken {
         ensures { result ≡ kept_status self.now.trouble }
     {
         match self.trouble {
-            KeptTrouble::Busy | KeptTrouble::Unusable(_) | KeptTrouble::Lost => 1,
-            KeptTrouble::Line(_) | KeptTrouble::Replica(_) => 3,
+            KeptTrouble::Busy | KeptTrouble::Unusable(_) | KeptTrouble::Lost(_) => 1,
+            KeptTrouble::Line(_) | KeptTrouble::Damaged(_) | KeptTrouble::Replica(_) => 3,
         }
     }
 }
@@ -71,6 +88,13 @@ impl fmt::Display for FileNotTaken {
                 let refusal = Refusal::Delta;
                 write!(f, "{refusal}\nline {number} of {path}")
             }
+            KeptTrouble::Damaged(number) => {
+                let refusal = Refusal::Delta;
+                write!(
+                    f,
+                    "{refusal}\nline {number} of {path}: it is not the digest of the lines before it"
+                )
+            }
             KeptTrouble::Replica(number) => {
                 let refusal = Refusal::Replica;
                 write!(f, "{refusal}\n{path} is of replica {number}")
@@ -83,11 +107,15 @@ impl fmt::Display for FileNotTaken {
                 let refusal = Refusal::Device;
                 write!(f, "{refusal}\n{path}: {cause}")
             }
-            KeptTrouble::Lost => {
+            KeptTrouble::Lost(Some(cause)) => {
+                let refusal = Refusal::Device;
+                write!(f, "{refusal}\n{path} isn't kept any more: {cause}")
+            }
+            KeptTrouble::Lost(None) => {
                 let refusal = Refusal::Device;
                 write!(
                     f,
-                    "{refusal}\n{path} isn't kept any more: it can't be written, or it was removed, replaced or cut"
+                    "{refusal}\n{path} isn't kept any more: there is no memory for its lines"
                 )
             }
         }
@@ -107,34 +135,98 @@ pub(crate) fn not_taken(alloc: Global, path: &str, trouble: KeptTrouble) -> Prog
 /// Returns the fault of a file that keeps a sheet no longer. Out of memory it is that of the device alone.
 ///
 /// Cost: linear in the path.
-pub fn lost_file(alloc: Global, path: &str) -> ProgramFault
+pub fn lost_file(alloc: Global, name: KeptName<'_>) -> ProgramFault
     ensures { TellsLoss result }
 {
-    let trouble = KeptTrouble::Lost;
-    match path.to_string(alloc) {
+    let trouble = KeptTrouble::Lost(name.reason.cause());
+    match name.path.to_string(alloc) {
         Ok(path) => ProgramFault::KeptFailed(FileNotTaken { path, trouble }),
         Err(AllocError) => ProgramFault::Refused(Refusal::Device),
     }
 }
 
-/// Opens the file of this path, or makes it, and reads it. A file that another program keeps is a fault of its own, and
-/// so is one that is no regular file, or can't be opened for reading and writing. Refused as `Memory`.
+/// The fault of a file whose device failed, with the reason if there is one; any other fault as it is.
+pub(crate) fn with_reason(alloc: Global, name: KeptName<'_>, fault: ProgramFault) -> ProgramFault
+    ensures { (result ≡ fault) ⊎ IsUnusable result }
+{
+    match (name.reason.cause(), fault) {
+        (Some(cause), ProgramFault::Refused(Refusal::Device)) => {
+            not_taken(alloc, name.path, KeptTrouble::Unusable(cause))
+        }
+        (_, fault) => fault,
+    }
+}
+
+/// A kept file as it was found: its lines without the digest lines, and their numbers in the file.
+pub(crate) type OpenFile = (DigestedFile<FoundFile>, LineNumbers);
+
+/// Opens the file of this path, or makes it, reads it, and checks its digest lines. A file that another program keeps is
+/// a fault of its own. So is one that is no regular file, or can't be opened for reading and writing, and so is a digest
+/// line that isn't that of the lines before it. Refused as `Memory`.
 ///
-/// Cost: linear in the file, and its memory.
+/// Cost: linear in the file, and twice its memory.
 pub(crate) fn open_file<R: Files<File = File>>(
     rt: &R,
     alloc: Global,
-    path: &str,
-) -> Result<FoundFile, ProgramFault>
-    ensures refused { IfErr result (λ f. IsUnusable f ⊎ TellsTrouble KeptTrouble.Busy f) }
+    name: KeptName<'_>,
+) -> Result<OpenFile, ProgramFault>
+    ensures clean { IfOk result (λ f. IsClean f.0.raw f.0.clean) }
+    ensures refused { IfErr result (λ f. IsUnusable f ⊎ TellsTrouble KeptTrouble.Busy f ⊎ TellsDamage f) }
 {
-    match FoundFile::open(rt, alloc, path) {
-        Ok(found) => Ok(found),
-        Err(FileFault::Memory) => Err(ProgramFault::Refused(Refusal::Memory)),
+    let path = name.path;
+    let reason = name.reason.share()?;
+    let found = match FoundFile::open(rt, alloc, path, reason) {
+        Ok(found) => found,
+        Err(FileFault::Memory) => return Err(ProgramFault::Refused(Refusal::Memory)),
         Err(FileFault::Device(cause)) => {
-            Err(not_taken(alloc, path, KeptTrouble::Unusable(cause)))
+            return Err(not_taken(alloc, path, KeptTrouble::Unusable(cause)));
         }
-        Err(FileFault::Busy) => Err(not_taken(alloc, path, KeptTrouble::Busy)),
+        Err(FileFault::Busy) => return Err(not_taken(alloc, path, KeptTrouble::Busy)),
+    };
+    read_digested(alloc, path, found)
+}
+
+/// Checks the digest lines of a found file.
+fn read_digested<F: Found + Drop>(
+    alloc: Global,
+    path: &str,
+    found: F,
+) -> Result<(DigestedFile<F>, LineNumbers), ProgramFault>
+    ensures clean { IfOk result (λ f. IsClean f.0.raw f.0.clean) }
+    ensures refused { IfErr result (λ f. IsUnusable f ⊎ TellsDamage f) }
+{
+    let fault = match DigestedFile::read(alloc, found) {
+        Ok(read) => return Ok(read),
+        Err((fault, back)) => {
+            drop(back);
+            fault
+        }
+    };
+    match fault {
+        DigestFault::Memory => Err(ProgramFault::Refused(Refusal::Memory)),
+        DigestFault::Line(number) => Err(not_taken(alloc, path, KeptTrouble::Damaged(number))),
+    }
+}
+
+/// The same trouble, with the number of the line in the file.
+fn moved(numbers: &LineNumbers, kept: FileNotTaken) -> FileNotTaken
+    ensures { IsMoved kept result }
+{
+    let FileNotTaken { path, trouble } = kept;
+    let trouble = match trouble {
+        KeptTrouble::Line(number) => KeptTrouble::Line(numbers.in_file(number)),
+        other => other,
+    };
+    FileNotTaken { path, trouble }
+}
+
+/// The fault of a file's lines, with the number of the line in the file.
+fn in_file(numbers: &LineNumbers, fault: ProgramFault) -> ProgramFault
+    ensures { IsInFile fault result }
+{
+    match fault {
+        ProgramFault::KeptFailed(kept) => ProgramFault::KeptFailed(moved(numbers, kept)),
+        fault => fault,
     }
 }
 
@@ -187,30 +279,37 @@ pub fn keep_sheet<R: Threads + Sync, F: Found + Drop, L: Ledger>(
 ///
 /// - [`ProgramFault::KeptFailed`] if another program has the file, a line may not stand there, or the file is another
 ///   replica's.
-/// - [`ProgramFault::KeptFailed`], too, if it is no regular file, or can't be opened for reading and writing.
-/// - `Device` if the device fails.
+/// - [`ProgramFault::KeptFailed`], too, if it is no regular file, or can't be opened for reading and writing, and if a
+///   digest line isn't that of the lines before it.
+/// - `Device` if the device fails, and the system gives no reason.
 /// - `Memory`.
 ///
-/// Cost: that of [`keep_sheet`], and the memory of the file's bytes.
+/// Cost: that of [`keep_sheet`], and twice the memory of the file's bytes.
 pub fn open_kept_sheet<R: Files<File = File> + Threads + Sync, L: Ledger>(
     resources: Resources<'_, R>,
-    path: &str,
+    name: KeptName<'_>,
     options: SheetOptions,
     meter: &mut Meter<L>,
-) -> Result<(Sheet, SheetKeeper<KeptFile>), ProgramFault>
-    ensures read { IfOk result (λ r. (bytes : List ℕ) × Reads options.replica bytes r.0.history) }
+) -> Result<(Sheet, SheetKeeper<DigestedDevice<KeptFile>>), ProgramFault>
+    ensures read { IfOk result (λ r. (raw : List ℕ) × ReadsFile options.replica raw r.0.history) }
     ensures kept { IfOk result (λ r. IsKeptSheet options.replica options.workers r.0 r.1) }
-    ensures refused { IfErr result (λ f. IsUnusable f ⊎ TellsTrouble KeptTrouble.Busy f
-        ⊎ ((bytes : List ℕ) × IsFileRefusal options.replica bytes f)) }
+    ensures refused { IfErr result (λ f. IsUnusable f ⊎ TellsTrouble KeptTrouble.Busy f ⊎ TellsDamage f
+        ⊎ ((raw : List ℕ) × RefusesFile options.replica raw f)) }
 {
     if options.squash {
-        squash_first(resources, path, options.replica, meter);
+        squash_first(resources, name.path, options.replica, meter);
     }
-    let found = match open_file(resources.threads, resources.alloc, path) {
-        Ok(found) => found,
+    let (found, numbers) = match open_file(resources.threads, resources.alloc, name) {
+        Ok(opened) => opened,
         Err(fault) => return Err(fault),
     };
-    keep_sheet(resources, found, path, options, meter)
+    match keep_sheet(resources, found, name.path, options, meter) {
+        Ok(kept) => Ok(kept),
+        Err(fault) => {
+            let fault = in_file(&numbers, fault);
+            Err(with_reason(resources.alloc, name, fault))
+        }
+    }
 }
 
 /// What was opened: a line for standard error, without its line feed.

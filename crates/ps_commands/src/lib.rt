@@ -56,7 +56,9 @@ pub use explain::Observer;
 pub use fault::{ProgramFault, status_of};
 pub use follow::follow_on;
 pub use join::{join_on, join_once_on};
-pub use kept::{FileNotTaken, KeptTrouble, OpenedFile, keep_sheet, lost_file, open_kept_sheet};
+pub use kept::{
+    FileNotTaken, KeptName, KeptTrouble, OpenedFile, keep_sheet, lost_file, open_kept_sheet,
+};
 pub use listening::{serve, serve_kept};
 pub use port::{PageAddress, PortFault, PortTrouble, port_fault};
 pub use run::{answer_kept, answer_lines, open_sheet};

@@ -13,14 +13,14 @@ ghost use Rattle.ps_commands.specs.declared.fault.ProgramFault.TheVariants.{Refu
 
 use crate::elsewhere::{Warner, tell_opened};
 use crate::fault::ProgramFault;
-use crate::kept::{lost_file, open_kept_sheet};
+use crate::kept::{KeptName, lost_file, open_kept_sheet};
 use crate::notice::{tell, tell_line};
 use crate::port::{PageAddress, listen};
 use crate::run::open_sheet;
 use ps_device::Sink;
 use ps_eval::Meter;
 use ps_grid::Refusal;
-use ps_keep::{Journal, KeptFile};
+use ps_keep::{DigestedDevice, Journal, KeptFile};
 use ps_server::{Closed, ServerOptions, serve_kept_on, serve_on};
 use ps_session::Resources;
 use ps_sheet::Sheet;
@@ -154,12 +154,12 @@ pub fn serve<
 
 /// Serves sessions on the sheet of a file at a port of this machine, as [`serve_kept_on`] does.
 ///
-/// It listens on the port, opens the file of `path`, and writes `listening` and the port. At the end it writes `closed`
+/// It listens on the port, opens the file of `name`, and writes `listening` and the port. At the end it writes `closed`
 /// and the version, and returns the closed sheet with its journal. `told` gets the address of the page, the opened
 /// file, and the warnings.
 ///
-/// `path` is what `options.keep` has. It is a parameter of its own, so that no call can be made of options without a
-/// file.
+/// The path of `name` is what `options.keep` has. It is a parameter of its own, so that no call can be made of options
+/// without a file.
 ///
 /// A port that can't be listened on, and a file that is refused, are faults of their own. Then nothing was written. If
 /// the device fails later, the fault names the file ([`lost_file`]).
@@ -178,11 +178,11 @@ pub fn serve_kept<
 >(
     resources: Resources<'_, R>,
     options: ServeOptions<'_>,
-    path: &str,
+    name: KeptName<'_>,
     out: &mut K,
     mut told: W,
     meter: &mut Meter<L>,
-) -> Result<Closed<Journal<KeptFile>>, ProgramFault>
+) -> Result<Closed<Journal<DigestedDevice<KeptFile>>>, ProgramFault>
     ensures asked { IfOk result (λ closed. options.entry.sessions ≡ Some closed.sessions) }
     ensures served { IfOk result (λ closed. (first : SheetView) × IsReadSheet options.entry.sheet.replica first
         × IsServed options.entry.seats closed.sessions first closed.sheet) }
@@ -199,18 +199,18 @@ pub fn serve_kept<
     ensures unheard { IfErr result (λ f. HasNoPort options.entry.port f → out.new ≡ out.old) }
 {
     let listener = listen(resources.threads, options.port)?;
-    let (sheet, keeper) = open_kept_sheet(resources, path, options.sheet, meter)?;
+    let (sheet, keeper) = open_kept_sheet(resources, name, options.sheet, meter)?;
     match tell_listening(options.port, out) {
         Ok(()) => {}
         Err(fault) => return Err(fault),
     }
     tell_page(resources.alloc, options.port, &mut told);
-    let mut warner = tell_opened(resources.alloc, path, &sheet, told);
+    let mut warner = tell_opened(resources.alloc, name.path, &sheet, told);
     let journal = keeper.into_journal();
     let asked = server_options(&listener, options);
     let closed = match serve_kept_on(resources, asked, sheet, journal, &mut warner) {
         Ok(closed) => closed,
-        Err(Refusal::Device) => return Err(lost_file(resources.alloc, path)),
+        Err(Refusal::Device) => return Err(lost_file(resources.alloc, name)),
         Err(refusal) => return Err(ProgramFault::Refused(refusal)),
     };
     match tell_closed(&closed.sheet, out) {

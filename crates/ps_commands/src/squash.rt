@@ -9,12 +9,12 @@ ghost use Rattle.ps_commands.specs.Commands.{selection_of};
 ghost use Rattle.ps_commands.specs.declared.fault.ProgramFault.TheVariants.{DeltaRefused, Refused};
 
 use crate::fault::ProgramFault;
-use crate::kept::{KeptTrouble, not_taken, open_file};
+use crate::kept::{KeptName, KeptTrouble, not_taken, open_file, with_reason};
 use crate::notice::tell_line;
 use ps_device::{Sink, Source};
 use ps_eval::Meter;
 use ps_grid::Refusal;
-use ps_keep::{FileCause, Found, first_line};
+use ps_keep::{FailureReason, FileCause, Found, LineNumbers, first_line};
 use ps_lines::{KeptLine, read_kept_line};
 use ps_session::Resources;
 use ps_shorten::{NamedFile, ShortenFault, Shortened, Shortening, Worth, shorten};
@@ -182,12 +182,21 @@ impl fmt::Display for SquashedFile<'_> {
 }
 
 /// The fault of a file that isn't squashed.
-fn not_squashed(alloc: Global, path: &str, fault: ShortenFault) -> ProgramFault {
+fn not_squashed(
+    alloc: Global,
+    name: KeptName<'_>,
+    numbers: &LineNumbers,
+    fault: ShortenFault,
+) -> ProgramFault {
+    let path = name.path;
     match fault {
         ShortenFault::Memory => ProgramFault::Refused(Refusal::Memory),
-        ShortenFault::Device => ProgramFault::Refused(Refusal::Device),
+        ShortenFault::Device => with_reason(alloc, name, ProgramFault::Refused(Refusal::Device)),
         ShortenFault::TooLong => ProgramFault::Refused(Refusal::TooLong),
-        ShortenFault::Line(number) => not_taken(alloc, path, KeptTrouble::Line(number)),
+        ShortenFault::Line(number) => {
+            let trouble = KeptTrouble::Line(numbers.in_file(number));
+            not_taken(alloc, path, trouble)
+        }
         ShortenFault::Replica(number) => not_taken(alloc, path, KeptTrouble::Replica(number)),
     }
 }
@@ -234,12 +243,17 @@ pub fn squash_kept<R: Files<File = File> + Threads + Sync, L: Ledger, W: Write>(
             return Err(not_taken(alloc, path, trouble));
         }
     }
-    let found = match open_file(threads, alloc, path) {
-        Ok(found) => found,
+    let reason = FailureReason::new(alloc)?;
+    let name = KeptName {
+        path,
+        reason: &reason,
+    };
+    let (found, numbers) = match open_file(threads, alloc, name) {
+        Ok(opened) => opened,
         Err(fault) => return Err(fault),
     };
     let replica = replica_told(alloc, found.bytes())?;
-    let mut file = NamedFile::new(threads, alloc, path, found);
+    let mut file = NamedFile::new(threads, alloc, path, found, reason.share()?);
     let asked = Shortening {
         replica,
         worth: Worth::Less,
@@ -249,7 +263,7 @@ pub fn squash_kept<R: Files<File = File> + Threads + Sync, L: Ledger, W: Write>(
             tell_line(alloc, &SquashedFile { path, changes }, told);
             Ok(())
         }
-        Err(fault) => Err(not_squashed(alloc, path, fault)),
+        Err(fault) => Err(not_squashed(alloc, name, &numbers, fault)),
     }
 }
 
@@ -266,8 +280,19 @@ pub(crate) fn squash_first<R: Files<File = File> + Threads + Sync, L: Ledger>(
     requires { (1 ≤ replica) × (replica ≤ REPLICAS) }
 {
     let Resources { threads, alloc } = resources;
-    if let Ok(found) = open_file(threads, alloc, path) {
-        let mut file = NamedFile::new(threads, alloc, path, found);
+    // (why it can't be squashed is nobody's matter)
+    let Ok(reason) = FailureReason::new(alloc) else {
+        return;
+    };
+    let Ok(own) = reason.share() else {
+        return;
+    };
+    let name = KeptName {
+        path,
+        reason: &reason,
+    };
+    if let Ok((found, _)) = open_file(threads, alloc, name) {
+        let mut file = NamedFile::new(threads, alloc, path, found, own);
         let asked = Shortening {
             replica,
             worth: Worth::Half,

@@ -1,4 +1,5 @@
 pub mod Closes
+mod CopyLemmas
 mod Locked
 mod Receipted
 mod Noted

@@ -1,4 +1,5 @@
 pub mod Closing
+pub mod Copies
 pub mod Opening
 pub mod Passes
 pub mod Patches

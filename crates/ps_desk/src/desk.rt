@@ -23,6 +23,7 @@ use crate::receipt::{Receipt, Standing};
 use crate::showing::Showing;
 use crate::shown_position::ShownPosition;
 use crate::state::DeskState;
+use ps_csv::entries_text;
 use ps_delta::{Change, Delta, Edit};
 use ps_eval::Meter;
 use ps_grid::{Cell, Rect, Refusal};
@@ -447,7 +448,8 @@ impl<L: DeskName, W: Wait + Drop> Desk<L, W> {
     /// What the cells of a rectangle hold: their entries, as the text of a table. The pass has then seen all that is
     /// published.
     ///
-    /// Refused only when out of memory. It may wait for other calls.
+    /// Refused only when out of memory. It may wait for other calls. Others wait while the contents are copied, and not
+    /// while the text is made.
     ///
     /// Cost: the cells of the rectangle and the bytes of the text.
     pub fn entries<V: Wait>(
@@ -469,7 +471,11 @@ impl<L: DeskName, W: Wait + Drop> Desk<L, W> {
         let shown = state.show();
         pass.catch_up(wait, state.front());
         let _ = pass.note_shown(wait, &shown);
-        state.entries(alloc, rect)
+        let copied = state.copied(alloc, rect);
+        drop(state);
+        // for the fact that it lies in the grid
+        let _ = rect.area();
+        entries_text(alloc, &copied?, rect)
     }
 }
 

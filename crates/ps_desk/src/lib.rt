@@ -4,11 +4,14 @@
 //! call that changes the sheet prepares the change, publishes it to the copies, and makes it. Where it can't be
 //! published, the call cancels the change. So what is published is at all times what the sheet's history has.
 //!
-//! It evaluates nothing, makes no deltas and copies no values: that is the sheet's and the copies' work. How a line is
+//! It evaluates nothing, makes no deltas and applies no patch: that is the sheet's and the copies' work. How a line is
 //! read and a reply is written is `ps_session`'s; it opens no connection and starts no thread.
 //!
 //! A pass belongs to a session. It holds the beginning of the published list that the session has seen, and counts what
 //! its session appended. It reads the copies without a lock.
+//!
+//! The text of a rectangle is made of a copy of its cells, once the lock or the published copy is left. So no change
+//! waits for a text.
 //!
 //! The contracts to use:
 //!
@@ -54,6 +57,7 @@
 
 mod change;
 mod close;
+mod copied;
 mod desk;
 mod name;
 mod open;

@@ -10,6 +10,7 @@ ghost use Rattle.ps_desk.specs.Closing.{EndsAt};
 ghost use Rattle.ps_desk.specs.Passes.{IsShown, entered, owned_by, seen_by};
 ghost use Rattle.ps_desk.specs.Seats.{GoesOn, Tabled};
 
+use crate::copied::CopiedValues;
 use crate::name::DeskName;
 use crate::position::Position;
 use crate::shot::Shot;
@@ -137,11 +138,12 @@ impl<L: DeskName> Pass<L> {
         Some(version)
     }
 
-    /// Returns what the cells of a rectangle show now, as a table, by one look at the published copies.
+    /// Returns what the cells of a rectangle show now, as a table, by one look at the published copies. A change that
+    /// is published meanwhile waits while the values are copied, and not while the table's text is made.
     ///
     /// Refused where the desk is gone, and when out of memory.
     ///
-    /// Cost: the cells of the rectangle, and the bytes of the table; no lock and no wait.
+    /// Cost: the cells of the rectangle, and the bytes of the table; no lock and no wait. It takes memory for both.
     pub(crate) fn table(&mut self, alloc: Global, rect: Rect) -> Result<Vec<u8>, Refusal>
         requires in_grid { LiesInGrid rect }
         ensures shown { Tabled L.opening self.old rect (with_part (λ text. text.items) result) self.new }
@@ -150,10 +152,10 @@ impl<L: DeskName> Pass<L> {
         let Some(seen) = enter(&mut self.reader) else {
             return Err(Refusal::Seat);
         };
-        let table = exported_text(alloc, &seen, rect);
+        let copied = CopiedValues::of(alloc, &seen, rect);
         self.shown = ShownPosition::new(&seen.shown());
         self.reader = Some(seen.leave());
-        table
+        exported_text(alloc, &copied?, rect)
     }
 
     /// Returns the number of the slot that the pass is for.

@@ -5,22 +5,24 @@ ghost use Rattle.std.specs.Prelude.{drop, get_or, length, take, Err, IfOk, IfErr
 ghost use mathlib.Core.List.{IsPrefix};
 ghost use Rattle.ps_grid.specs.declared.refusal.Refusal.TheVariants.{Memory, Version};
 ghost use Rattle.ps_delta.specs.Deltas.{joined_history};
-ghost use Rattle.ps_csv.specs.Exports.{entry_text, exported_entries, held_in};
+ghost use Rattle.ps_csv.specs.Exports.{entry_text, held_in};
 ghost use Rattle.ps_sheet.specs.Prepared.{IsDeltaOf, IsRefusedBy, IsToAppend};
 ghost use Rattle.ps_sheet.specs.Own.{has_own};
 ghost use Rattle.ps_sheet.specs.Sheet.{IsSheet};
 ghost use Rattle.ps_face.specs.Legal.{IsLegal, history_of};
+ghost use Rattle.ps_desk.specs.Copies.{SameIn, holds_in};
 ghost use Rattle.ps_desk.specs.Receipts.{Stands};
 ghost use Rattle.ps_desk.specs.declared.showing.Showing.TheVariants.{AtOnce};
 
 use crate::change::{finish, make_way, note_shown, share};
+use crate::copied::CopiedContents;
 use crate::name::DeskName;
 use crate::pass::Pass;
 use crate::receipt::Standing;
 use crate::showing::Showing;
 use crate::shown_position::ShownPosition;
 use ps_content::Content;
-use ps_csv::{Holds, entries_text, entry_of};
+use ps_csv::{Holds, entry_of};
 use ps_delta::{Change, Delta};
 use ps_eval::Meter;
 use ps_face::{BookPrefix, FaceWriter};
@@ -229,13 +231,13 @@ impl<L: DeskName, W: Wait + Drop> DeskState<L, W> {
         entry_of(alloc, self, cell)
     }
 
-    /// The entries of a rectangle, as the text of a table. Refused only when out of memory.
-    pub(crate) fn entries(&self, alloc: Global, rect: Rect) -> Result<Vec<u8>, Refusal>
-        ensures text { IfOk result (λ t. t.items
-            ≡ exported_entries (held_in (history_of L.opening self.now.list)) rect) }
+    /// Copies what the cells of a rectangle hold. Refused only when out of memory.
+    pub(crate) fn copied(&self, alloc: Global, rect: Rect) -> Result<CopiedContents, Refusal>
+        ensures same { IfOk result (λ copy.
+            SameIn rect (holds_in copy) (held_in (history_of L.opening self.now.list))) }
         ensures memory { IfErr result (λ e. e ≡ Memory) }
     {
-        entries_text(alloc, self, rect)
+        CopiedContents::of(alloc, self, rect)
     }
 }
 

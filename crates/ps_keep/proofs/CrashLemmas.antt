@@ -83,7 +83,7 @@ journal_found j is failed went =
 pub read_twice : (bytes : List ℕ) → whole_lines (text (whole_lines bytes)) ≡ whole_lines bytes
 read_twice bytes = whole_of_text (whole_lines bytes) (whole_are bytes)
 
-front_line : (u t r : List ℕ) → u ++ t ≡ r → IsLine r → IsLine u
+pub front_line : (u t r : List ℕ) → u ++ t ≡ r → IsLine r → IsLine u
 front_line [] t r e is = tt
 front_line (x ∷ u) t [] e is = absurd (none (u ++ t) e)
   where

@@ -1,4 +1,10 @@
+pub mod CoverLemmas
 pub mod CrashLemmas
+pub mod DigestLemmas
 pub mod JournalLemmas
 pub mod LineLemmas
+pub mod MirrorLemmas
+pub mod NumberLemmas
 pub mod OpenLemmas
+pub mod ReadLemmas
+pub mod TearLemmas

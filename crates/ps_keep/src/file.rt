@@ -2,6 +2,7 @@
 ghost use Rattle.std.specs.Prelude.{◌≡◌, ◌≤◌, length};
 
 use crate::device::{Device, Found};
+use crate::reason::FailureReason;
 use crate::trace::Trace;
 use ps_device::Failed;
 use std::alloc::Global;
@@ -32,6 +33,8 @@ pub enum FileCause {
     NotRegular,
     /// It lost its name while it was opened.
     Removed,
+    /// While it was kept open it lost its name, or got another length than was written.
+    Displaced,
     /// The system gave no reason.
     Unknown,
 }
@@ -45,6 +48,10 @@ impl fmt::Display for FileCause {
             }
             FileCause::NotRegular => write!(f, "it is no regular file"),
             FileCause::Removed => write!(f, "it was removed meanwhile"),
+            FileCause::Displaced => write!(
+                f,
+                "it was removed, replaced or cut, or another program wrote to it"
+            ),
             FileCause::Unknown => write!(f, "it can't be read or written"),
         }
     }
@@ -75,18 +82,20 @@ pub struct FoundFile {
     file: File,
     /// what was read of it
     bytes: Vec<u8>,
+    reason: FailureReason,
 }
 
 impl FoundFile {
     /// Opens the file of this path, or makes it, locks it, has its name on the disk and reads it. Refused as `Busy`
     /// where another process has it locked, and as `Device` where it is no regular file or has lost its name meanwhile;
-    /// such a file isn't read.
+    /// such a file isn't read. If a later call of the file fails, `reason` gets to know why.
     ///
     /// Cost: linear in the file, and its memory; one sync of the folder.
     pub fn open<R: Files<File = File>>(
         rt: &R,
         alloc: Global,
         path: &str,
+        reason: FailureReason,
     ) -> Result<FoundFile, FileFault> {
         let mut file = open_or_make(rt, path)?;
         match file.try_lock() {
@@ -106,7 +115,11 @@ impl FoundFile {
         sync_folder(rt, path)?;
         let mut bytes = Vec::new(alloc);
         match file.read_to_end(&mut bytes) {
-            Ok(_) => Ok(FoundFile { file, bytes }),
+            Ok(_) => Ok(FoundFile {
+                file,
+                bytes,
+                reason,
+            }),
             Err(error) => Err(fault_of(&error)),
         }
     }
@@ -167,19 +180,21 @@ impl Found for FoundFile {
     }
 
     fn keep(self, count: usize) -> Result<KeptFile, Failed> {
-        let FoundFile { file, bytes } = self;
-        if count < bytes.len() && file.set_len(count as u64).is_err() {
-            return Err(Failed);
+        let FoundFile {
+            file,
+            bytes,
+            reason,
+        } = self;
+        if count < bytes.len() {
+            noted(&reason, file.set_len(count as u64))?;
         }
-        match file.sync_all() {
-            Ok(()) => {}
-            Err(_) => return Err(Failed),
-        }
+        noted(&reason, file.sync_all())?;
         let mut trace = Trace::new();
         trace.note(&[], &bytes[..count]);
         trace.note(&[1], &[]);
         Ok(KeptFile {
             file,
+            reason,
             trace,
             synced: count as u64,
             end: count as u64,
@@ -187,6 +202,17 @@ impl Found for FoundFile {
             is_cut: false,
             cut_failed: false,
         })
+    }
+}
+
+/// Notes why a call of the system failed.
+fn noted(reason: &FailureReason, done: io::Result<()>) -> Result<(), Failed> {
+    match done {
+        Ok(()) => Ok(()),
+        Err(error) => {
+            reason.note_error(&error);
+            Err(Failed)
+        }
     }
 }
 
@@ -198,6 +224,7 @@ impl Found for FoundFile {
 #[derive(Drop)]
 pub struct KeptFile {
     file: File,
+    reason: FailureReason,
     trace: Trace,
     /// how many bytes it had when it was last synced
     synced: u64,
@@ -217,8 +244,15 @@ impl KeptFile {
     /// comes later, or that leaves the length as it was.
     fn is_in_place(&self) -> bool {
         match self.file.metadata() {
-            Ok(about) => about.nlink() > 0 && about.len() == self.end,
-            Err(_) => false,
+            Ok(about) if about.nlink() > 0 && about.len() == self.end => true,
+            Ok(_) => {
+                self.reason.note(FileCause::Displaced);
+                false
+            }
+            Err(error) => {
+                self.reason.note_error(&error);
+                false
+            }
         }
     }
 }
@@ -244,7 +278,10 @@ impl Device for KeptFile {
             }
             tries -= 1;
             match self.file.write(&bytes[start..]) {
-                Ok(0) => return Err(Failed),
+                Ok(0) => {
+                    self.reason.note(FileCause::Unknown);
+                    return Err(Failed);
+                }
                 Ok(count) => {
                     match self.end.checked_add(count as u64) {
                         Some(end) => self.end = end,
@@ -254,7 +291,10 @@ impl Device for KeptFile {
                     start += count;
                 }
                 Err(error) if error.kind() == ErrorKind::Interrupted => {}
-                Err(_) => return Err(Failed),
+                Err(error) => {
+                    self.reason.note_error(&error);
+                    return Err(Failed);
+                }
             }
         }
         self.is_broken = false;
@@ -268,7 +308,12 @@ impl Device for KeptFile {
                 self.synced = self.end;
                 Ok(())
             }
-            _ => {
+            Ok(()) => {
+                self.is_broken = true;
+                Err(Failed)
+            }
+            Err(error) => {
+                self.reason.note_error(&error);
                 self.is_broken = true;
                 Err(Failed)
             }

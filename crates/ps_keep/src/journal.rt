@@ -46,7 +46,7 @@ impl<D: Device + Drop> Model for Journal<D> {
 }
 
 /// Adds a line with its line feed, or nothing, out of memory.
-fn append_line(bytes: &mut Vec<u8>, line: &[u8]) -> Result<(), AllocError>
+pub(crate) fn append_line(bytes: &mut Vec<u8>, line: &[u8]) -> Result<(), AllocError>
     ensures added { OnOk result (bytes.new.items ≡ (bytes.old.items ++ line.now) ++ 10 ∷ []) }
     ensures same { OnErr result (bytes.new.items ≡ bytes.old.items) }
 {

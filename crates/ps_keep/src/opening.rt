@@ -24,7 +24,7 @@ pub fn first_line(bytes: &[u8]) -> Option<(&[u8], &[u8])>
 }
 
 /// Returns how many of these bytes are whole lines.
-fn count_whole(bytes: &[u8]) -> usize
+pub(crate) fn count_whole(bytes: &[u8]) -> usize
     ensures within { result ≤ length bytes.now }
     ensures lines { take result bytes.now ≡ text (whole_lines bytes.now) }
 {

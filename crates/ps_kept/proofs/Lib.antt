@@ -1,3 +1,4 @@
+pub mod DigestedLemmas
 pub mod KeeperLemmas
 pub mod LawLemmas
 pub mod NoteLemmas

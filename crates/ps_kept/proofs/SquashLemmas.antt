@@ -17,7 +17,7 @@ use Rattle.ps_sheet.specs.Sheet.{IsFresh}
 use Rattle.ps_sheet.proofs.AppendedDeltas.{fresh_push}
 use Rattle.ps_wire.specs.Line.{IsLine as IsDeltaLine, delta_text}
 use Rattle.ps_lines.specs.Feeding.{HasNoFeed, without_return}
-use Rattle.ps_lines.specs.PushLine.{Pushes, push_line, push_word}
+use Rattle.ps_lines.specs.PushLine.{Pushes, push_line}
 use Rattle.ps_lines.specs.ReplicaLine.{replica_line}
 use Rattle.ps_lines.specs.Streams.{Splits, stream_of, with_last}
 use Rattle.ps_keep.specs.Lines.{AreLines, IsLine, text, whole_lines}
@@ -25,7 +25,7 @@ use Rattle.ps_keep.proofs.LineLemmas.{Parts, parts_lines, whole_of_text}
 use Rattle.ps_squash.specs.Squashed.{IsSquashed, FirstSays, Say, SayAll, Says, after_push, cells_in, push_lines}
 use Rattle.ps_squash.specs.Squashed.{told_line}
 use Rattle.ps_squash.proofs.CellLemmas.{divided_history, rising_of, rising_right}
-use Rattle.ps_squash.proofs.LineLemmas.{after_push-push}
+use Rattle.ps_squash.proofs.LineLemmas.{after_push-push, silent_pushes_none}
 use Rattle.ps_kept.specs.Kept.{PushAll, TellHistory}
 use Rattle.ps_kept.specs.Laws.{IsPlain, SquashedFilesRead}
 use Rattle.ps_kept.specs.Starts.{IsBegun, Reads}
@@ -71,12 +71,11 @@ no_more (x ∷ a) rest e = let tail : a ≡ a ++ rest = cc in no_more a rest tai
 
 -- a line that pushes a delta says it
 says_pushed : (line : List ℕ) (d : Entries) (here : List Entries) → Pushes line d → Says line here → here ≡ d ∷ []
-says_pushed [] d here pushes says = absurd (none pushes.0 pushes.1)
-  where
-    none : (text : List ℕ) → [] ≡ push_word ++ text → ⊥
-    none text e = cc
-says_pushed (b ∷ bs) d here pushes says =
-    let same : after_push (b ∷ bs) ≡ pushes.0 = after_push-push (b ∷ bs) pushes.0 pushes.1 in
+unfolding Says
+says_pushed line d here pushes (inl silent) =
+    absurd (silent_pushes_none line silent.0 (pushes.0, pushes.1))
+says_pushed line d here pushes (inr says) =
+    let same : after_push line ≡ pushes.0 = after_push-push line pushes.0 pushes.1 in
     let one : says.0 ≡ d = line_of_one pushes.0 says.0 d (subst (λ t. IsDeltaLine t says.0) same says.1) pushes.2 in
     says.2 ∙ ap (λ e. e ∷ []) one
 

@@ -1,16 +1,17 @@
 -- What holds of kept sheets, whatever they hold and wherever a crash comes.
-use Rattle.std.specs.Prelude.{◌≡◌, ◌+◌, ◌<◌, ◌≤◌, ℕ, List, length}
+use Rattle.std.specs.Prelude.{◌≡◌, ◌+◌, ◌<◌, ◌≤◌, ℕ, List, [], length}
 use Rattle.std.specs.List.{All}
 use mathlib.Core.List.{IsPrefix}
 use Rattle.ps_grid.specs.declared.parties.TheConstants.{REPLICAS}
 use Rattle.ps_delta.specs.Deltas.{Entries, joined_history}
 use Rattle.ps_sheet.specs.Sheet.{IsFresh}
 use Rattle.ps_keep.specs.Crash.{IsLeft, IsTorn}
+use Rattle.ps_keep.specs.Digests.{AreDigested, HaveNoDigests, IsClean, ReadsAfterCrashes}
 use Rattle.ps_keep.specs.Journals.{JournalView}
 use Rattle.ps_keep.specs.Lines.{text, whole_lines}
 use Rattle.ps_lines.specs.Feeding.{without_return}
 use Rattle.ps_squash.specs.Squashed.{IsSquashed}
-use Rattle.ps_kept.specs.Kept.{IsKept, IsNoted, started}
+use Rattle.ps_kept.specs.Kept.{IsKept, IsNoted, TellHistory, started}
 use Rattle.ps_kept.specs.Starts.{IsFaultOf, IsFaulty, Outlives, Reads}
 use Rattle.ps_kept.specs.declared.fault.KeepFault.{KeepFault}
 use Rattle.ps_kept.specs.declared.fault.KeepFault.TheVariants as faults
@@ -50,6 +51,28 @@ abbrev pub StartsMayCrash : Type 0
 StartsMayCrash =
     (replica : ℕ) (bytes left : List ℕ) (history : List Entries) → Reads replica bytes history
     → IsLeft bytes (length (text (whole_lines bytes))) left → Reads replica left history
+
+-- LAW: no line that tells a history has the form of a digest line
+abbrev pub ToldLinesHaveNoDigests : Type 0
+ToldLinesHaveNoDigests =
+    (replica : ℕ) (lines : List (List ℕ)) (history : List Entries) → replica ≤ REPLICAS
+    → TellHistory replica lines history → HaveNoDigests lines
+
+-- where a journal's file has digest lines: whatever a crash leaves of it, they are right, and from its other lines a
+-- start reads all that was kept, and nothing but a beginning of what was noted
+abbrev pub OutlivesDigested : ℕ → List Entries → List Entries → List ℕ → ℕ → Type 0
+OutlivesDigested replica kept history raw on_disk =
+    (left : List ℕ) → IsLeft raw on_disk left
+    → AreDigested [] (whole_lines left) × ((clean : List ℕ) → IsClean left clean
+    → (read : List Entries) × Reads replica clean read × IsPrefix kept read × IsPrefix read history)
+
+-- LAW: crashes keep sheets whose files have digest lines, too
+abbrev pub CrashesKeepDigested : Type 0
+CrashesKeepDigested =
+    (replica : ℕ) (kept history : List Entries) (j : JournalView) (raw : List ℕ) (on_disk : ℕ) → replica ≤ REPLICAS
+    → IsKept replica kept j → IsNoted replica history j → IsFresh history
+    → (HaveNoDigests (whole_lines j.written) → ReadsAfterCrashes raw on_disk j.written j.synced)
+    → OutlivesDigested replica kept history raw on_disk
 
 -- LAW: where a crash has torn the end of a file, and the next start refuses a line of the rest, that line stands after
 -- all that were kept

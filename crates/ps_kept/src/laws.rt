@@ -1,6 +1,6 @@
 //! Laws of kept sheets, as functions that do nothing: each is its contract.
-ghost use Rattle.ps_kept.specs.Laws.{CrashesKeepSheets, FaultsComeAfter, OneHistory, ReadAgain, ReadFilesOpen};
-ghost use Rattle.ps_kept.specs.Laws.{SquashedFilesRead, StartsMayCrash, StaysNoted};
+ghost use Rattle.ps_kept.specs.Laws.{CrashesKeepDigested, CrashesKeepSheets, FaultsComeAfter, OneHistory, ReadAgain, ReadFilesOpen};
+ghost use Rattle.ps_kept.specs.Laws.{SquashedFilesRead, StartsMayCrash, StaysNoted, ToldLinesHaveNoDigests};
 
 /// States that a journal still fits a history that has grown: it has a beginning of the longer one, too.
 pub fn longer_histories_fit()
@@ -11,6 +11,13 @@ pub fn longer_histories_fit()
 /// that was durable.
 pub fn crashes_keep_sheets()
     ensures { CrashesKeepSheets }
+{}
+
+/// States the same of a file with digest lines: a crash leaves them right, and the next start reads as much in the other
+/// lines. For no line that tells a history has the form of a digest line.
+pub fn crashes_keep_digested_sheets()
+    ensures lines { ToldLinesHaveNoDigests }
+    ensures crash { CrashesKeepDigested }
 {}
 
 /// States that a file has at most one history. A start refuses a file with a history only when out of memory, or when

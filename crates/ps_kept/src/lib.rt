@@ -18,7 +18,8 @@
 //! - [`SheetKeeper`]'s `sync`: the whole history is durable. At whatever moment a crash comes, the next start reads
 //!   a beginning of the history that has all that was durable (`Outlives`).
 //! - The laws: a file has at most one history, and no start refuses a file that a crash has left. The file after a
-//!   start reads as before. A squashed file reads as a history with the same join.
+//!   start reads as before. A squashed file reads as a history with the same join. A crash leaves as much of a file with
+//!   digest lines (`DigestedFile` of `ps_keep`).
 //!
 //! Code that shares a sheet between sessions adds lines by [`note_deltas`].
 //!
@@ -40,8 +41,8 @@ mod reading;
 pub use fault::KeepFault;
 pub use keeper::SheetKeeper;
 pub use laws::{
-    crashes_keep_sheets, faults_come_after_the_kept, longer_histories_fit, one_history_is_read,
-    squashed_files_read_the_same, starts_read_the_same,
+    crashes_keep_digested_sheets, crashes_keep_sheets, faults_come_after_the_kept,
+    longer_histories_fit, one_history_is_read, squashed_files_read_the_same, starts_read_the_same,
 };
 pub use noting::note_deltas;
 pub use opening::open_kept;

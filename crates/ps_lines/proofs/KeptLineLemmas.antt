@@ -3,21 +3,22 @@
 use Rattle.std.proofs.Common.{◌≡◌, ◌≢◌, ◌⊎◌, inl, inr, ◌≤◌, ◌==◌, ℕ, Bool, true, false, cond, List, [], ◌∷◌, ◌++◌}
 use Rattle.std.proofs.Common.{Some, None, Ok, Err, refl, ap, sym, ◌∙◌, arith, codes, get_or, length, drop, nat_lt}
 use Rattle.std.proofs.Common.{subst}
-use Rattle.std.proofs.lemmas.Bool.{eqb-true, false≢true, le-leb, ltb-true}
-use Rattle.std.proofs.lemmas.Fmt.{decimal_injective}
+use Rattle.std.proofs.lemmas.Bool.{and_parts, eqb-true, false≢true, le-leb, ltb-true}
+use Rattle.std.proofs.lemmas.Fmt.{decimal_injective, length-decimal-le}
 use Rattle.std.proofs.lemmas.List.{append_cancel_left}
 use Rattle.std.proofs.lemmas.List.Sums.{passes_at_first, split_at_first}
 use Rattle.std.proofs.lemmas.Slice.Eq.{bytes_eq-Decides}
 use Rattle.std.proofs.lemmas.Grind.{common_steps}
-use Rattle.std.specs.Prelude.{MatchOption, Option, bytes_eq}
+use Rattle.std.specs.Prelude.{MatchOption, Option, bytes_eq, if◌then◌else◌}
 use Rattle.std.specs.Fmt.{decimal}
 use Rattle.std.specs.List.{position_or_len}
 use Rattle.ps_grid.specs.declared.parties.TheConstants.{REPLICAS}
 use Rattle.ps_grid.specs.declared.refusal.Refusal.TheVariants as refusals
 use Rattle.ps_delta.specs.Deltas.{Entries}
 use Rattle.ps_wire.specs.Line.{IsLine}
-use Rattle.ps_lines.specs.Commands.{Read, ReadsDelta, ReadsLine, ReadsPush, ReadsReplica, ReadsVerb, replica_number}
-use Rattle.ps_lines.specs.Commands.{verb_of, with_part, Pushes as PushIsRead}
+use Rattle.ps_lines.specs.Commands.{Read, ReadsDelta, ReadsLine, ReadsPush, ReadsReplica, ReadsVerb, read_unnumbered}
+use Rattle.ps_lines.specs.Commands.{replica_number, verb_of, with_part, Pushes as PushIsRead}
+use Rattle.ps_lines.specs.DigestLine.{IsDigestLine, is_digest}
 use Rattle.ps_lines.specs.PushLine.{IsPush, Pushes, push_word}
 use Rattle.ps_lines.specs.ReplicaLine.{Tells, TellsNone, replica_line}
 use Rattle.ps_lines.specs.KeptLines.{LineSaysNothing}
@@ -42,6 +43,20 @@ pub one_replica : (line : List ℕ) (n m : ℕ) → Tells line n → Tells line 
 one_replica line n m first second =
     decimal_injective n m (omega (arith, first.1)) (omega (arith, second.1))
     (append_cancel_left (codes "replica ") (decimal n) (decimal m) (sym first.2 ∙ second.2))
+
+-- a digest is longer than the number of a replica
+pub digest_tells_none : (line : List ℕ) → IsDigestLine line → TellsNone line
+unfolding is_digest
+digest_tells_none line digest n low high is =
+    let same : digest.0 ≡ decimal n =
+    append_cancel_left (codes "replica ") digest.0 (decimal n) (sym digest.1 ∙ is) in
+    let digits = length-decimal-le 3 n (omega arith) (omega (arith, high)) (omega (arith, high)) in
+    let long : length digest.0 ≡ 16 = eqb-true (length digest.0) 16 (and_parts _ _ digest.2).0 in
+    omega (arith, ap length same, digits, long)
+
+-- .. and pushes nothing
+pub digest_pushes_none : (line : List ℕ) → IsDigestLine line → ¬ IsPush line
+digest_pushes_none line digest push = differ _ _ (sym push.1 ∙ digest.1)
 
 -- the verbs of the two lines
 push_verb : (line : List ℕ) → IsPush line → verb_of (first_word line) ≡ Some Push
@@ -135,7 +150,7 @@ replica_read line n read tells reads =
     let there : ReadsReplica (words (decimal n)) read = subst (λ l. ReadsLine l read) tells.2 reads in
     let alone : ReadsReplica (decimal n ∷ []) read =
     subst (λ ws. ReadsReplica ws read) (number_is_word n (omega (arith, tells.1))) there in
-    subst (λ o. MatchOption o (read ≡ Err refusals.Replica) (λ k. read ≡ Ok (commands.Replica (Some k))))
+    subst (λ o. MatchOption o (read ≡ read_unnumbered (decimal n)) (λ k. read ≡ Ok (commands.Replica (Some k))))
     (read_again n tells.0 tells.1) alone
 
 -- what is read as anything else is no such line
@@ -149,13 +164,20 @@ replica_says_asked : (line : List ℕ) (read : Read Command) → ¬ IsPush line 
 replica_says_asked line read other reads [] is =
     subst (SaysAsked line) (sym is)
     (tells_none line (Ok (commands.Replica None)) (subst (ReadsLine line) is reads) (λ n e. cc), other)
-replica_says_asked line read other reads (number ∷ []) is = by (replica_number (whole_number number)) is
+replica_says_asked line read other reads (word ∷ []) is = by (replica_number (whole_number word)) is
   where
-    by : (found : Option ℕ) → MatchOption found (read ≡ Err refusals.Replica)
-        (λ n. read ≡ Ok (commands.Replica (Some n))) → SaysAsked line read
-    by None e =
+    unnumbered : (digest : Bool) → read ≡ (if digest then Ok (commands.Replica None) else Err refusals.Replica)
+        → SaysAsked line read
+    unnumbered true e =
+        subst (SaysAsked line) (sym e)
+        (tells_none line (Ok (commands.Replica None)) (subst (ReadsLine line) e reads) (λ n same. cc), other)
+    unnumbered false e =
         subst (SaysAsked line) (sym e)
         (tells_none line (Err refusals.Replica) (subst (ReadsLine line) e reads) (λ n same. cc), other)
+
+    by : (found : Option ℕ) → MatchOption found (read ≡ read_unnumbered word)
+        (λ n. read ≡ Ok (commands.Replica (Some n))) → SaysAsked line read
+    by None e = unnumbered (is_digest word) e
     by (Some n) e =
         subst (SaysAsked line) (sym e) (
           other,
@@ -164,7 +186,7 @@ replica_says_asked line read other reads (number ∷ []) is = by (replica_number
               sym (replica_read line m read tells reads) ∙ e in
               cc,
         )
-replica_says_asked line read other reads (number ∷ second ∷ more) is =
+replica_says_asked line read other reads (word ∷ second ∷ more) is =
     subst (SaysAsked line) (sym is)
     (tells_none line (Err refusals.Command) (subst (ReadsLine line) is reads) (λ n e. cc), other)
 

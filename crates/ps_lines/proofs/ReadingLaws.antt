@@ -14,7 +14,7 @@ use Rattle.ps_delta.specs.declared.edit.Edit.{Edit}
 use Rattle.ps_lines.specs.Commands.{group_size, AsksOfCell, AsksOfRectangle, AtCell, AtNumber, Assigns, NamesCell}
 use Rattle.ps_lines.specs.Commands.{Read, ReadsChange, ReadsCorners, ReadsDelta, ReadsLine, ReadsOneCell, ReadsPair}
 use Rattle.ps_lines.specs.Commands.{ReadsPull, ReadsRectangle, ReadsReplica, ReadsSet, ReadsTakingIn, ReadsVerb}
-use Rattle.ps_lines.specs.Commands.{ReadsWait, replica_number, verb_of, with_part}
+use Rattle.ps_lines.specs.Commands.{ReadsWait, read_unnumbered, replica_number, verb_of, with_part}
 use Rattle.ps_delta.specs.Deltas.{Entries}
 use Rattle.ps_lines.specs.Words.{after_word, first_word, parts, whole_number, words}
 use Rattle.ps_lines.specs.declared.command.Command.{Command}
@@ -186,13 +186,13 @@ pull_once (from ∷ most ∷ third ∷ more) a b x y = x ∙ sym y
 
 replica_once : (others : List (List ℕ)) (a b : Read Command) → ReadsReplica others a → ReadsReplica others b → a ≡ b
 replica_once [] a b x y = x ∙ sym y
-replica_once (digits ∷ []) a b x y = at (replica_number (whole_number digits)) x y
+replica_once (word ∷ []) a b x y = at (replica_number (whole_number word)) x y
   where
-    at : (n : Option ℕ) → MatchOption n (a ≡ Err refusals.Replica) (λ n. a ≡ Ok (commands.Replica (Some n)))
-        → MatchOption n (b ≡ Err refusals.Replica) (λ n. b ≡ Ok (commands.Replica (Some n))) → a ≡ b
+    at : (n : Option ℕ) → MatchOption n (a ≡ read_unnumbered word) (λ n. a ≡ Ok (commands.Replica (Some n)))
+        → MatchOption n (b ≡ read_unnumbered word) (λ n. b ≡ Ok (commands.Replica (Some n))) → a ≡ b
     at None p q = p ∙ sym q
     at (Some n) p q = p ∙ sym q
-replica_once (digits ∷ second ∷ more) a b x y = x ∙ sym y
+replica_once (word ∷ second ∷ more) a b x y = x ∙ sym y
 
 wait_once : (others : List (List ℕ)) (a b : Read Command) → ReadsWait others a → ReadsWait others b → a ≡ b
 wait_once [] a b x y = x ∙ sym y

@@ -31,8 +31,8 @@ pub taking_in_reads : (asked : Entries → Command) (line : List ℕ) (read : Re
     → ReadsTakingIn asked (words line) line read
 taking_in_reads asked line read reads = rw (parts_are_some 32 line).are reads
 
-pub replica_more : (number rest : List ℕ) → ReadsReplica (number ∷ words rest) (Err refusals.Command)
-replica_more number rest = rw (parts_are_some 32 rest).are refl
+pub replica_more : (word rest : List ℕ) → ReadsReplica (word ∷ words rest) (Err refusals.Command)
+replica_more word rest = rw (parts_are_some 32 rest).are refl
 
 pub wait_more : (seen rest : List ℕ) → ReadsWait (seen ∷ words rest) (Err refusals.Command)
 wait_more seen rest = rw (parts_are_some 32 rest).are refl

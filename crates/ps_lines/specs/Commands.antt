@@ -13,6 +13,7 @@ use Rattle.ps_delta.specs.Deltas.{Entries}
 use Rattle.ps_wire.specs.Line.{IsLine}
 use Rattle.ps_delta.specs.declared.edit.Edit.{Edit}
 use Rattle.ps_delta.specs.declared.edit.Edit.TheVariants as edits
+use Rattle.ps_lines.specs.DigestLine.{is_digest}
 use Rattle.ps_lines.specs.Words.{after_word, first_word, parts, whole_number, words}
 use Rattle.ps_lines.specs.declared.command.Command.{Command}
 use Rattle.ps_lines.specs.declared.command.TheConstants.{LARGEST_GROUP}
@@ -156,10 +157,14 @@ abbrev pub replica_number : Option ℕ → Option ℕ
 replica_number None = None
 replica_number (Some n) = if nat_le 1 n && nat_le n REPLICAS then Some n else None
 
--- `replica`: no other word, or the number of a replica
+-- what a word that is no number of a replica is read as: a digest names none
+abbrev pub read_unnumbered : List ℕ → Read Command
+read_unnumbered word = if is_digest word then Ok (commands.Replica None) else Err refusals.Replica
+
+-- `replica`: no other word, the number of a replica, or a digest
 abbrev pub ReadsReplica : List (List ℕ) → Read Command → Type 0
 ReadsReplica [] read = read ≡ Ok (commands.Replica None)
-ReadsReplica (number ∷ []) read = MatchOption (replica_number (whole_number number)) (read ≡ Err refusals.Replica)
+ReadsReplica (word ∷ []) read = MatchOption (replica_number (whole_number word)) (read ≡ read_unnumbered word)
     (λ n. read ≡ Ok (commands.Replica (Some n)))
 ReadsReplica _ read = read ≡ Err refusals.Command
 

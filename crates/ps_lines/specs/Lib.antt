@@ -7,5 +7,6 @@ pub mod Replies
 pub mod PullReplies
 pub mod PushLine
 pub mod ReplicaLine
+pub mod DigestLine
 pub mod KeptLines
 pub mod Inside

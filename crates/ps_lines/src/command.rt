@@ -4,8 +4,9 @@ ghost use Rattle.std.specs.Option.{ok_or};
 ghost use Rattle.ps_lines.specs.Words.{after_word, parts, whole_number, words};
 ghost use Rattle.ps_lines.specs.Commands.{AtCell, ReadsCorners, ReadsLine, ReadsOneCell, ReadsPair, ReadsPull};
 ghost use Rattle.ps_lines.specs.Commands.{ReadsRectangle, ReadsReplica, ReadsSet, ReadsVerb, ReadsWait, Merges, Pushes};
-ghost use Rattle.ps_lines.specs.Commands.{TakesMemoryToRead, group_size, replica_number};
+ghost use Rattle.ps_lines.specs.Commands.{TakesMemoryToRead, group_size};
 
+use crate::digest_line::is_digest;
 use crate::verb::Verb;
 use crate::words::{read_whole, split_part, split_word};
 use ps_content::read_entry;
@@ -59,7 +60,7 @@ impl Command {
     /// - `pull <from>` and `pull <from> <most>`: return deltas;
     /// - `push <line>`: take in the delta of the line, which is all after the space;
     /// - `merge <line>`: take in what is new of this delta;
-    /// - `replica` and `replica <number>`: return the own replica;
+    /// - `replica`, `replica <number>` and `replica <digest>`: return the own replica;
     /// - `wait <number>`: return the version once there are more changes than this.
     ///
     /// Exactly one space stands between two words; an entry may hold more. `decoder` reads the line of a delta. Only
@@ -74,7 +75,7 @@ impl Command {
     /// - `Cell`: a word that names no cell;
     /// - `Amount` or `OptionRange`: no digits, or a number of more than 64 bits;
     /// - `Version`: no digits or more than 64 bits for `pull` and `wait`, or a `most` that isn't 1 to 16;
-    /// - `Replica`: a number that isn't 1 to [`REPLICAS`];
+    /// - `Replica`: neither a number of 1 to [`REPLICAS`] nor a digest;
     /// - those of the entry, or `Delta` for a line that is no delta's;
     /// - `Memory`: out of memory.
     ///
@@ -335,22 +336,25 @@ fn read_wait(rest: &[u8]) -> Result<Command, Refusal>
     }
 }
 
-/// Reads the rest of `replica`: a replica's number, and no more words.
+/// Reads the rest of `replica`: a replica's number or a digest, and no more words.
 fn read_replica(rest: &[u8]) -> Result<Command, Refusal>
     ensures { ReadsReplica (words rest.now) result }
 {
     match split_word(rest) {
-        (number, None) => Ok(Command::Replica(Some(read_number(number)?))),
+        (word, None) => read_named(word),
         (_, Some(_)) => Err(Refusal::Command),
     }
 }
 
-/// Reads the number of a replica, 1 to [`REPLICAS`].
-fn read_number(word: &[u8]) -> Result<u8, Refusal>
-    ensures { result ≡ ok_or (replica_number (whole_number word.now)) Refusal.Replica }
+/// Reads the word after `replica`: the number of a replica, 1 to [`REPLICAS`], or a digest.
+fn read_named(word: &[u8]) -> Result<Command, Refusal>
+    ensures { ReadsReplica (word.now ∷ []) result }
 {
     match read_whole(word) {
-        Some(number) if 1 <= number && number <= u64::from(REPLICAS) => Ok(number as u8),
+        Some(number) if 1 <= number && number <= u64::from(REPLICAS) => {
+            Ok(Command::Replica(Some(number as u8)))
+        }
+        _ if is_digest(word) => Ok(Command::Replica(None)),
         _ => Err(Refusal::Replica),
     }
 }

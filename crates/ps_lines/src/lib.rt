@@ -4,7 +4,7 @@
 //!   source.
 //! - A [`Command`] is what a line asks for, and a [`Verb`] its first word.
 //! - A [`Reply`] is the answer to a line. [`send`] writes it, and a [`Watcher`] observes it.
-//! - A [`KeptLine`] is what a line of a kept file says.
+//! - A [`KeptLine`] is what a line of a kept file says. [`is_digest_line`] tells those that have a digest of it.
 //! - [`deltas_after`] and [`greatest_group`] find the answer to a `pull` in a list of deltas.
 //!
 //! This crate knows no sheet: the session decides what a command does and what its reply holds.
@@ -21,6 +21,7 @@
 #![tactic(auto)]
 
 mod command;
+mod digest_line;
 mod group;
 mod history;
 mod incoming;
@@ -36,6 +37,7 @@ mod watcher;
 mod words;
 
 pub use command::{Command, LARGEST_GROUP};
+pub use digest_line::is_digest_line;
 pub use group::greatest_group;
 pub use history::deltas_after;
 pub use incoming::{Incoming, LineFault, NextLine};

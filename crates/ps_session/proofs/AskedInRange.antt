@@ -1,6 +1,7 @@
 -- What a line asks for is in range, and the delta of an edit that it asks for lies in the grid.
 use Rattle.std.proofs.Common.{◌≡◌, ◌<◌, ◌≤◌, ◌∙◌, refl, sym, ap, subst, arith, ℕ, List, [], ◌∷◌}
-use Rattle.std.proofs.Common.{Option, Some, None, MatchOption, Result, Ok, Err, drop}
+use Rattle.std.proofs.Common.{Bool, true, false, Option, Some, None, MatchOption, Result, Ok, Err, drop}
+use Rattle.std.specs.Prelude.{if◌then◌else◌}
 use Rattle.std.specs.List.{All}
 use Rattle.std.proofs.lemmas.List.Elements.{All-cons}
 use Rattle.ps_grid.specs.declared.refusal.Refusal.{Refusal}
@@ -16,7 +17,8 @@ use Rattle.ps_delta.specs.declared.edit.Edit.TheVariants as edits
 use Rattle.ps_sheet.specs.Edits.{assigned, delta_of_edit}
 use Rattle.ps_lines.specs.Commands.{AsksOfCell, AsksOfRectangle, AtNumber, Read, ReadsChange, ReadsLine, ReadsPair}
 use Rattle.ps_lines.specs.Commands.{ReadsPull, ReadsReplica, ReadsSet, ReadsTakingIn, ReadsVerb, ReadsWait}
-use Rattle.ps_lines.specs.Commands.{group_size, replica_number, verb_of}
+use Rattle.ps_lines.specs.Commands.{group_size, read_unnumbered, replica_number, verb_of}
+use Rattle.ps_lines.specs.DigestLine.{is_digest}
 use Rattle.ps_lines.specs.PullReplies.{HasLine}
 use Rattle.ps_session.specs.EditLines.{IsEdit, named_count}
 use Rattle.ps_lines.specs.Words.{after_word, first_word, words, whole_number}
@@ -128,13 +130,18 @@ taking_in_range asked (word ∷ others) line read each (Err e, reads, is) = subs
 
 replica_in_range : (others : List (List ℕ)) (read : Read Command) → ReadsReplica others read → AsksInRange read
 replica_in_range [] read is = subst AsksInRange (sym is) tt
-replica_in_range (number ∷ []) read reads = at (replica_number (whole_number number)) reads
+replica_in_range (word ∷ []) read reads = at (replica_number (whole_number word)) reads
   where
-    at : (n : Option ℕ) → MatchOption n (read ≡ Err refusals.Replica) (λ n. read ≡ Ok (commands.Replica (Some n)))
+    unnumbered : (digest : Bool) → read ≡ (if digest then Ok (commands.Replica None) else Err refusals.Replica)
         → AsksInRange read
-    at None is = subst AsksInRange (sym is) tt
+    unnumbered true is = subst AsksInRange (sym is) tt
+    unnumbered false is = subst AsksInRange (sym is) tt
+
+    at : (n : Option ℕ) → MatchOption n (read ≡ read_unnumbered word) (λ n. read ≡ Ok (commands.Replica (Some n)))
+        → AsksInRange read
+    at None is = unnumbered (is_digest word) is
     at (Some n) is = subst AsksInRange (sym is) tt
-replica_in_range (number ∷ second ∷ more) read is = subst AsksInRange (sym is) tt
+replica_in_range (word ∷ second ∷ more) read is = subst AsksInRange (sym is) tt
 
 wait_in_range : (others : List (List ℕ)) (read : Read Command) → ReadsWait others read → AsksInRange read
 wait_in_range [] read is = subst AsksInRange (sym is) tt

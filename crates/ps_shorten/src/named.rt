@@ -3,9 +3,10 @@ ghost use Rattle.std.specs.Prelude.{◌≡◌, ◌⊎◌, List, OnErr, OnOk, ℕ
 ghost use Rattle.ps_shorten.specs.Shortened.{content_of};
 
 use ps_device::Failed;
-use ps_keep::Found;
+use ps_keep::{FailureReason, FileCause, Found};
 use std::alloc::Global;
 use std::fs::{File, OpenOptions, TryLockError, remove_file, rename};
+use std::io;
 use std::io::Write;
 use std::os::unix::fs::MetadataExt;
 use std::path::{AsPath, Path, PathBuf};
@@ -55,11 +56,18 @@ pub struct NamedFile<'a, R: Files<File = File>, F: Found + Drop> {
     found: F,
     /// the file that replaced it
     new: Option<NewFile>,
+    reason: FailureReason,
 }
 
 impl<'a, R: Files<File = File>, F: Found + Drop> NamedFile<'a, R, F> {
-    /// The file of this path, as it was found.
-    pub fn new(rt: &'a R, alloc: Global, path: &'a str, found: F) -> NamedFile<'a, R, F>
+    /// The file of this path, as it was found. If it can't be replaced, `reason` gets to know why.
+    pub fn new(
+        rt: &'a R,
+        alloc: Global,
+        path: &'a str,
+        found: F,
+        reason: FailureReason,
+    ) -> NamedFile<'a, R, F>
         ensures { ⟦<NamedFile<'a, R, F> as Replace>⟧.content result ≡ F.bytes found }
     {
         NamedFile {
@@ -68,6 +76,7 @@ impl<'a, R: Files<File = File>, F: Found + Drop> NamedFile<'a, R, F> {
             path,
             found,
             new: None,
+            reason,
         }
     }
 }
@@ -84,13 +93,21 @@ impl<R: Files<File = File>, F: Found + Drop> Replace for NamedFile<'_, R, F> {
 
     fn replace(&mut self, text: Vec<u8>) -> Result<(), Failed> {
         // (a link stays one, and the file that it leads to is replaced)
-        let path = match self.rt.canonicalize(self.alloc, self.path) {
-            Ok(path) => path,
-            Err(_) => return Err(Failed),
-        };
-        let file = put_in_place(self.rt, self.alloc, &path, &text)?;
+        let path = noted(&self.reason, self.rt.canonicalize(self.alloc, self.path))?;
+        let file = put_in_place(self.rt, self.alloc, &self.reason, &path, &text)?;
         self.new = Some(NewFile { file, bytes: text });
-        sync_folder(self.rt, &path)
+        sync_folder(self.rt, &self.reason, &path)
+    }
+}
+
+/// Returns what a call of the system made, or notes why it failed.
+fn noted<T: Drop>(reason: &FailureReason, done: io::Result<T>) -> Result<T, Failed> {
+    match done {
+        Ok(made) => Ok(made),
+        Err(error) => {
+            reason.note_error(&error);
+            Err(Failed)
+        }
     }
 }
 
@@ -99,6 +116,7 @@ impl<R: Files<File = File>, F: Found + Drop> Replace for NamedFile<'_, R, F> {
 fn put_in_place<R: Files<File = File>>(
     rt: &R,
     alloc: Global,
+    reason: &FailureReason,
     path: &PathBuf,
     bytes: &[u8],
 ) -> Result<File, Failed> {
@@ -107,8 +125,10 @@ fn put_in_place<R: Files<File = File>>(
         return Err(Failed);
     };
     let beside = beside.as_str();
-    let file = new_file(rt, name, beside)?;
-    if write_whole(&file, bytes).is_ok() && rename(rt, beside, name).is_ok() {
+    let file = new_file(rt, reason, name, beside)?;
+    if write_whole(reason, &file, bytes).is_ok()
+        && noted(reason, rename(rt, beside, name)).is_ok()
+    {
         return Ok(file);
     }
     // (it is in nobody's way, and the next squash removes it)
@@ -118,59 +138,55 @@ fn put_in_place<R: Files<File = File>>(
 
 /// Makes an empty file beside that of this name, locks it, and gives it the same owner and rights. What an earlier
 /// squash left there, which was killed, is removed.
-fn new_file<R: Files<File = File>>(rt: &R, name: &str, beside: &str) -> Result<File, Failed> {
-    let Ok(about) = rt.metadata(name) else {
-        return Err(Failed);
-    };
+fn new_file<R: Files<File = File>>(
+    rt: &R,
+    reason: &FailureReason,
+    name: &str,
+    beside: &str,
+) -> Result<File, Failed> {
+    let about = noted(reason, rt.metadata(name))?;
     let _ = remove_file(rt, beside);
     let opened = OpenOptions::new()
         .write(true)
         .create_new(true)
         .open(rt, beside);
-    let Ok(file) = opened else {
-        return Err(Failed);
-    };
+    let file = noted(reason, opened)?;
     match file.try_lock() {
         Ok(()) => {}
-        Err(TryLockError::WouldBlock | TryLockError::Error(_)) => return Err(Failed),
+        Err(TryLockError::WouldBlock) => {
+            reason.note(FileCause::Unknown);
+            return Err(Failed);
+        }
+        Err(TryLockError::Error(error)) => {
+            reason.note_error(&error);
+            return Err(Failed);
+        }
     }
-    let Ok(own) = file.metadata() else {
-        return Err(Failed);
-    };
-    let is_foreign = (own.uid(), own.gid()) != (about.uid(), about.gid());
-    if is_foreign
-        && rt
-            .chown(beside, Some(about.uid()), Some(about.gid()))
-            .is_err()
-    {
-        return Err(Failed);
+    let own = noted(reason, file.metadata())?;
+    if (own.uid(), own.gid()) != (about.uid(), about.gid()) {
+        let done = rt.chown(beside, Some(about.uid()), Some(about.gid()));
+        noted(reason, done)?;
     }
-    match file.set_permissions(about.permissions()) {
-        Ok(()) => Ok(file),
-        Err(_) => Err(Failed),
-    }
+    noted(reason, file.set_permissions(about.permissions()))?;
+    Ok(file)
 }
 
 /// Writes these bytes, and has them on the disk.
-fn write_whole(file: &File, bytes: &[u8]) -> Result<(), Failed> {
+fn write_whole(reason: &FailureReason, file: &File, bytes: &[u8]) -> Result<(), Failed> {
     let mut writer = file;
-    if writer.write_all(bytes).is_err() || file.sync_all().is_err() {
-        return Err(Failed);
-    }
-    Ok(())
+    noted(reason, writer.write_all(bytes))?;
+    noted(reason, file.sync_all())
 }
 
 /// Has the names of the file's folder on the disk.
-fn sync_folder<R: Files<File = File>>(rt: &R, path: &PathBuf) -> Result<(), Failed> {
-    let folder = match Path::new(path.path_text()).parent() {
-        Some(parent) => parent,
-        None => return Err(Failed),
+fn sync_folder<R: Files<File = File>>(
+    rt: &R,
+    reason: &FailureReason,
+    path: &PathBuf,
+) -> Result<(), Failed> {
+    let Some(parent) = Path::new(path.path_text()).parent() else {
+        return Err(Failed);
     };
-    match File::open(rt, folder) {
-        Ok(folder) => match folder.sync_all() {
-            Ok(()) => Ok(()),
-            Err(_) => Err(Failed),
-        },
-        Err(_) => Err(Failed),
-    }
+    let folder = noted(reason, File::open(rt, parent))?;
+    noted(reason, folder.sync_all())
 }

@@ -22,7 +22,7 @@ use Rattle.ps_squash.specs.declared.fault.SquashFault.{SquashFault}
 use Rattle.ps_squash.specs.declared.selection.Selection.{Selection}
 use Rattle.ps_squash.specs.declared.fault.SquashFault.TheVariants as faults
 
--- what a first line is read as: nothing where it is empty; else the replica that it tells, or the delta that it says
+-- what a first line is read as: nothing where it is silent; else the replica that it tells, or the delta that it says
 abbrev pub IsRead : List ℕ → Option KeptLine → Type 0
 IsRead line None = FirstSays line None []
 IsRead line (Some (kept_lines.Replica n)) = FirstSays line (Some n) []

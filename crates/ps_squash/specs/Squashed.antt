@@ -1,11 +1,12 @@
 -- What delta lines say together, and the lines that say the same in fewer.
-use Rattle.std.specs.Prelude.{◌≡◌, ◌+◌, ◌-◌, ◌^◌, ℕ, List, [], ◌∷◌, ◌++◌, Option, Some, None, ⊤}
+use Rattle.std.specs.Prelude.{◌≡◌, ◌⊎◌, ◌+◌, ◌-◌, ◌^◌, ℕ, List, [], ◌∷◌, ◌++◌, Option, Some, None, ⊤}
 use Rattle.std.specs.Prelude.{drop, flat_map, if◌then◌else◌, length, min, nat_eq}
 use Rattle.std.specs.List.{All, starts_with}
 use Rattle.ps_delta.specs.State.{State}
 use Rattle.ps_delta.specs.Deltas.{AreEntries, Entries, IsDelta, joined_history}
 use Rattle.ps_wire.specs.Fits.{FitsLine}
 use Rattle.ps_wire.specs.Line.{IsLine, delta_text}
+use Rattle.ps_lines.specs.DigestLine.{IsDigestLine}
 use Rattle.ps_lines.specs.Feeding.{HasNoFeed, without_return}
 use Rattle.ps_lines.specs.PushLine.{push_line, push_word}
 use Rattle.ps_lines.specs.ReplicaLine.{Tells, TellsNone, replica_line}
@@ -17,10 +18,14 @@ use Rattle.ps_lines.specs.Streams.{IsAfterLine, Splits, stream_of, with_last}
 abbrev pub after_push : List ℕ → List ℕ
 after_push line = if starts_with nat_eq line push_word then drop 5 line else line
 
--- what a line without its return says: nothing where it is empty, else the delta that it is a line of
-abbrev pub Says : List ℕ → List Entries → Type 0
-Says [] deltas = deltas ≡ []
-Says (b ∷ bs) deltas = (d : Entries) × IsLine (after_push (b ∷ bs)) d × (deltas ≡ d ∷ [])
+-- a line without its return that says nothing: it is empty, or it has a digest
+abbrev pub IsSilent : List ℕ → Type 0
+IsSilent line = (line ≡ []) ⊎ IsDigestLine line
+
+-- what a line without its return says: nothing, or the delta that it is a line of
+unfoldable pub Says : List ℕ → List Entries → Type 0
+Says line deltas =
+    (IsSilent line × (deltas ≡ [])) ⊎ ((d : Entries) × IsLine (after_push line) d × (deltas ≡ d ∷ []))
 
 -- what lines say, one after another
 abbrev pub Say : List (List ℕ) → List Entries → Type 0

@@ -1,13 +1,13 @@
 //! Joins the lines of a source as they come.
 ghost use Rattle.std.specs.Prelude.{◌≡◌, ◌⊎◌, ◌+◌, ◌-◌, ◌^◌, ◌<◌, ◌≤◌, ℕ, List, [], Err, IfOk, IfErr, OnOk, ⊤};
-ghost use Rattle.std.specs.Prelude.{None, Option, length, min, take};
+ghost use Rattle.std.specs.Prelude.{Decides, None, Option, length, min, take};
 ghost use Rattle.std.specs.Io.KnownBytes.{Consumes, IsAtEnd};
 ghost use Rattle.ps_grid.specs.declared.refusal.Refusal.TheVariants as refusals;
 ghost use Rattle.ps_delta.specs.Deltas.{Entries};
 ghost use Rattle.ps_delta.specs.State.{state_at};
 ghost use Rattle.ps_lines.specs.Feeding.{Holds, without_return};
 ghost use Rattle.ps_lines.specs.ReplicaLine.{TellsNone};
-ghost use Rattle.ps_squash.specs.Squashed.{FirstFault, FirstSays, Says};
+ghost use Rattle.ps_squash.specs.Squashed.{FirstFault, FirstSays, IsSilent, Says};
 ghost use Rattle.ps_squash.specs.Selected.{SelectedTogether};
 ghost use Rattle.ps_squash.specs.Inside.{Fails, GoesOn, IsOfIntake, IsOfLines, IsRead, NextSays, StandsAfter};
 ghost use Rattle.ps_squash.specs.Inside.{sum_after, sum_of};
@@ -19,7 +19,7 @@ use crate::selection::Selection;
 use crate::taken::Taken;
 use ps_device::{PIECE_BYTES, Source};
 use ps_grid::Refusal;
-use ps_lines::{KeptLine, Line, LineBuffer, read_kept_line};
+use ps_lines::{KeptLine, Line, LineBuffer, is_digest_line, read_kept_line};
 use ps_wire::Decoder;
 use std::alloc::Global;
 
@@ -40,7 +40,14 @@ struct Intake {
     ended: u64,
 }
 
-/// Returns what a line says: that of a kept file, or a delta whose line it is without `push `; none if it is empty.
+/// Returns whether a line says nothing: it is empty, or has a digest.
+fn is_silent(line: &[u8]) -> bool
+    ensures { Decides result (IsSilent line.now) }
+{
+    line.is_empty() || is_digest_line(line)
+}
+
+/// Returns what a line says: that of a kept file, or a delta whose line it is without `push `; none if it is silent.
 ///
 /// Fails as `Delta` if it says neither, and as `Memory`.
 fn read_line(alloc: Global, decoder: &mut Decoder, line: &[u8]) -> Result<Option<KeptLine>, Refusal>
@@ -49,7 +56,7 @@ fn read_line(alloc: Global, decoder: &mut Decoder, line: &[u8]) -> Result<Option
     ensures untold { result ≡ Err refusals.Delta → TellsNone line.now }
     ensures refused { IfErr result (λ e. (e ≡ refusals.Delta) ⊎ (e ≡ refusals.Memory)) }
 {
-    if line.is_empty() {
+    if is_silent(line) {
         return Ok(None);
     }
     match read_kept_line(alloc, decoder, line)? {
@@ -60,7 +67,7 @@ fn read_line(alloc: Global, decoder: &mut Decoder, line: &[u8]) -> Result<Option
 
 /// Joins what is taken of what a line says, or returns the replica that it tells.
 ///
-/// Fails as `Delta` if the line isn't empty, tells no replica and is no delta's, and as `Memory`.
+/// Fails as `Delta` if the line isn't silent, tells no replica and is no delta's, and as `Memory`.
 fn join_line(
     alloc: Global,
     decoder: &mut Decoder,
@@ -249,7 +256,7 @@ fn read_on<S: Source>(intake: &mut Intake, source: &mut S) -> Result<(), SquashF
 /// Reads a source to its end, and returns the replica that its first line tells and the join of what is taken of its
 /// lines.
 ///
-/// Fails as `Line` at the first line that isn't empty and is no delta's, unless it is the first of all and tells a
+/// Fails as `Line` at the first line that isn't silent and is no delta's, unless it is the first of all and tells a
 /// replica. Fails as `Source` if the source fails, and as `Memory`.
 ///
 /// Cost: that of the lines, of joining their deltas, the room of one line, and that of a decoder.

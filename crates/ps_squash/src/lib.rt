@@ -23,7 +23,8 @@
 //!
 //! For example, `[["A1",[1,1,"5"],[],[]]]`, `push [["A1",[2,1,"6"],[],[]]]` and `push [["B1",[1,1,"7"],[],[]]]` become
 //! one line, `push [["A1",[2,1,"6"],[],[]],["B1",[1,1,"7"],[],[]]]`. With `replica 1` before the three, that line is
-//! written before the one, too. In any other place `replica 1` is the line of no delta.
+//! written before the one, too. In any other place `replica 1` is the line of no delta. A line with a digest, as
+//! `replica 0123456789abcdef`, says nothing.
 //!
 //! Cost: that of the lines and their joins, the cells of the grid, and the text that is written.
 #![tactic(auto)]

@@ -21,13 +21,14 @@ use std::alloc::Global;
 
 /// Reads the delta lines of a source to its end, writes the lines that push their join, and flushes the sink.
 ///
-/// A line that is read may have the word `push` before its delta. Each line that is written has as many cells as fit.
+/// A line that is read may have the word `push` before its delta. An empty line and one with a digest, as
+/// `replica 0123456789abcdef`, say nothing, wherever they stand. Each line that is written has as many cells as fit.
 /// If the first line read is that of a kept file, such as `replica 1`, it is written before them. Nothing is written
 /// before all lines are read.
 ///
 /// # Errors
 ///
-/// - `Line`: a line isn't empty and is no delta's, nor tells a replica as the first line; the number is that of the
+/// - `Line`: a line says something and is no delta's, nor tells a replica as the first line; the number is that of the
 ///   first such line.
 /// - `TooLong`: a cell alone has no line; this takes lines that break the rules of sequences.
 /// - `Memory`: out of memory.

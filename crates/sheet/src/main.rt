@@ -33,14 +33,15 @@ ghost use Rattle.ps_grid.specs.Blanks.{IsBlankOf};
 use clap::Error;
 use clap::error::ErrorKind;
 use ps_commands::{
-    KeptObserver, Observer, ProgramFault, answer_kept, answer_lines, check_on, follow_on, join_on,
-    join_once_on, leave_unfreed, lost_file, open_kept_sheet, port_fault, serve, serve_kept,
-    squash_kept, squash_on, squash_part_on, status_of, sync_on, table_on, talk_on, tell_left_out,
-    tell_opened,
+    KeptName, KeptObserver, Observer, ProgramFault, answer_kept, answer_lines, check_on, follow_on,
+    join_on, join_once_on, leave_unfreed, lost_file, open_kept_sheet, port_fault, serve,
+    serve_kept, squash_kept, squash_on, squash_part_on, status_of, sync_on, table_on, talk_on,
+    tell_left_out, tell_opened,
 };
 use ps_device::{ConsoleOutput, Reading, Sink, Writing};
 use ps_eval::Meter;
 use ps_grid::Refusal;
+use ps_keep::FailureReason;
 use ps_server::{Closed, Counts};
 use ps_session::{HeldOutput, Resources};
 use ps_words::{
@@ -326,7 +327,12 @@ fn run_kept<R: Files<File = File> + Threads + Sync, I: Ledger, O: Ledger, H: Led
 {
     let mut meter = Meter::<M>::new(counts.evaluations);
     let resources = resources_of(rt, threads);
-    let opened = open_kept_sheet(resources, path, options.sheet, &mut meter);
+    let reason = FailureReason::new(rt.alloc())?;
+    let name = KeptName {
+        path,
+        reason: &reason,
+    };
+    let opened = open_kept_sheet(resources, name, options.sheet, &mut meter);
     let (sheet, mut keeper) = match opened {
         Ok(opened) => opened,
         Err(fault) => return Err(fault),
@@ -349,7 +355,7 @@ fn run_kept<R: Files<File = File> + Threads + Sync, I: Ledger, O: Ledger, H: Led
     let is_lost = keeper.into_journal().is_stopped();
     match done {
         Ok(()) => observer.end(options.strict),
-        Err(_) if is_lost => Err(lost_file(rt.alloc(), path)),
+        Err(_) if is_lost => Err(lost_file(rt.alloc(), name)),
         Err(fault) => Err(fault),
     }
 }
@@ -375,7 +381,12 @@ fn serve_sessions<
     let resources = resources_of(rt, threads);
     match options.keep {
         Some(path) => {
-            let closed = serve_kept(resources, options, path, out, rt.stderr(), meter)?;
+            let reason = FailureReason::new(rt.alloc())?;
+            let name = KeptName {
+                path,
+                reason: &reason,
+            };
+            let closed = serve_kept(resources, options, name, out, rt.stderr(), meter)?;
             let Closed { sheet, .. } = closed;
             leave_unfreed(sheet);
         }

@@ -1,0 +1,12 @@
+use Rattle.std.proofs.Common.{◌≤◌, length}
+use Rattle.ps_keep.proofs.ReadLemmas.{ReadSoFar}
+use Rattle.ps_keep.proofs.digested.read_lines.Given as goal
+
+abbrev pub invariant-lines : goal.invariant-lines
+invariant-lines l = record {
+  so_far : ReadSoFar l.bytes l.rest l.clean.items l.hasher l.number l.before.items l.others;
+  fewer : l.others ≤ l.number;
+}
+
+abbrev pub decreases-lines : goal.decreases-lines
+decreases-lines l = length l.rest

@@ -1,0 +1,74 @@
+//! Why a file failed.
+
+use crate::file::FileCause;
+use std::alloc::{AllocError, Global};
+use std::io;
+use std::sync::Arc;
+use std::sync::atomic::{AtomicI32, Ordering};
+
+/// No call has failed yet. Reasons of the system are positive.
+const NONE: i32 = 0;
+
+const NOT_REGULAR: i32 = -1;
+
+const REMOVED: i32 = -2;
+
+const DISPLACED: i32 = -3;
+
+const UNKNOWN: i32 = -4;
+
+/// The reason of the first call of a file that failed, shared by the file and by whoever reports it. A
+/// [`Failed`](ps_device::Failed) has none.
+///
+/// No clause says what it holds.
+#[derive(Drop)]
+pub struct FailureReason {
+    first: Arc<AtomicI32>,
+}
+
+impl FailureReason {
+    /// Creates the reason of a file that hasn't failed. Refused out of memory.
+    pub fn new(alloc: Global) -> Result<FailureReason, AllocError> {
+        Ok(FailureReason {
+            first: Arc::new(alloc, AtomicI32::new(NONE))?,
+        })
+    }
+
+    /// Returns another handle of the same reason. Refused out of memory.
+    pub fn share(&self) -> Result<FailureReason, AllocError> {
+        Ok(FailureReason {
+            first: Arc::clone(&self.first)?,
+        })
+    }
+
+    /// Notes why a call failed, unless another has failed before.
+    pub fn note(&self, cause: FileCause) {
+        let code = match cause {
+            FileCause::System(code) if code > NONE => code,
+            FileCause::NotRegular => NOT_REGULAR,
+            FileCause::Removed => REMOVED,
+            FileCause::Displaced => DISPLACED,
+            FileCause::System(_) | FileCause::Unknown => UNKNOWN,
+        };
+        let _ = self
+            .first
+            .compare_exchange(NONE, code, Ordering::SeqCst, Ordering::SeqCst);
+    }
+
+    /// Notes what the system said.
+    pub fn note_error(&self, error: &io::Error) {
+        self.note(FileCause::of(error));
+    }
+
+    /// Returns why the first call failed, if one did.
+    pub fn cause(&self) -> Option<FileCause> {
+        match self.first.load(Ordering::SeqCst) {
+            NONE => None,
+            NOT_REGULAR => Some(FileCause::NotRegular),
+            REMOVED => Some(FileCause::Removed),
+            DISPLACED => Some(FileCause::Displaced),
+            code if code > NONE => Some(FileCause::System(code)),
+            _ => Some(FileCause::Unknown),
+        }
+    }
+}

@@ -1,0 +1,44 @@
+//! Recognizes the lines of a kept file that have a digest.
+ghost use Rattle.std.specs.Prelude.{◌≡◌, Decides};
+ghost use Rattle.std.specs.List.{list_all};
+ghost use Rattle.ps_lines.specs.DigestLine.{IsDigestLine, is_digest, is_digest_digit};
+
+use crate::verb::REPLICA;
+use crate::words::rest_after;
+
+/// How many hex digits a digest has.
+const DIGEST_DIGITS: usize = 16;
+
+/// Returns whether a line has a digest, as `replica 0123456789abcdef`: nothing else, and no other spelling.
+///
+/// A session takes such a line as `replica`, and `squash` passes over it. It says nothing of the sheet.
+pub fn is_digest_line(line: &[u8]) -> bool
+    ensures { Decides result (IsDigestLine line.now) }
+{
+    match rest_after(line, REPLICA) {
+        Some(word) => is_digest(word),
+        None => false,
+    }
+}
+
+/// Returns whether a word is a digest.
+#[tactic(auto, unfolding(crate::specs::DigestLine::is_digest))]
+pub(crate) fn is_digest(word: &[u8]) -> bool
+    ensures { result ≡ is_digest word.now }
+{
+    word.len() == DIGEST_DIGITS && are_digest_digits(word)
+}
+
+/// Returns whether all bytes are hex digits in lower case.
+fn are_digest_digits(word: &[u8]) -> bool
+    ensures { result ≡ list_all is_digest_digit word.now }
+{
+    word.iter().all(|b| is_digest_digit(*b))
+}
+
+/// Returns whether a byte is a hex digit in lower case.
+fn is_digest_digit(byte: u8) -> bool
+    ensures { result ≡ is_digest_digit byte }
+{
+    byte.is_ascii_hexdigit() && !byte.is_ascii_uppercase()
+}
