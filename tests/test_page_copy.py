@@ -121,6 +121,7 @@ class Cuts(BrowserTest):
         self.assert_held("get A1", "val ")
         # an edit ends a cut, so that nothing is moved away under it
         page.wait_for("shownAt([2, 2])", "6")
+        page.wait_for("acting", 0)
         page.key("x", CONTROL)
         page.type("7")
         page.key("Enter")

@@ -174,46 +174,6 @@ class Sessions(ProgramTest):
             reader.leave()
             self.assertEqual(server.ended(), Ended(0, lines("closed 964")))
 
-    def test_edits_wait_for_no_text_of_a_table(self):
-        # (an edit that waited for the texts which are being made would let a dozen of them through)
-        readers, each, high, wide = 15, 6, 1024, COLUMNS - 1
-        for command, content in (("rows", "x" * 64), ("entries", "'" + "x" * 64)):
-            with self.subTest(command=command), serving(readers + 1) as server:
-                writer = server.client()
-                for line in pushes(lambda column, row: "'" + "x" * 64, range(1, high + 1)):
-                    self.assertRegex(writer.ask(line), "^ok ")
-                read = []
-
-                def play(client):
-                    for _ in range(each):
-                        # the cell that is edited lies outside, so each reply has as many bytes
-                        self.assertEqual(client.ask(f"{command} B1:CZ{high}"), f"{command} {high}")
-                        left = high * wide * (len(content) + 1) - len(client.received)
-                        client.received = b""
-                        while left:
-                            piece = client.connection.recv(min(left, 65_536))
-                            self.assertTrue(piece)
-                            left -= len(piece)
-                        read.append(client)
-
-                clients = [server.client() for _ in range(readers)]
-                threads = [threading.Thread(target=play, args=(client,)) for client in clients]
-                for thread in threads:
-                    thread.start()
-                self.assertTrue(comes_to(lambda: read))
-                before, edits = len(read), 0
-                while all(thread.is_alive() for thread in threads):
-                    edits += 1
-                    self.assertEqual(writer.ask(f"set A1 {edits}"), f"ok {high + edits}")
-                found = len(read) - before
-                for thread in threads:
-                    thread.join()
-                self.assertEqual(len(read), readers * each)
-                self.assertGreater(2 * edits, found)
-                for client in (writer, *clients):
-                    client.leave()
-                self.assertEqual(server.ended(), Ended(0, lines(f"closed {high + edits}")))
-
     def test_a_change_is_shown_at_once_though_the_lines_after_it_take_long(self):
         # an edit of A2 has hundreds of formulas sum some ten thousand cells, and all of them go on to show 0
         numbers, sums = range(2, 115), range(970, 977)

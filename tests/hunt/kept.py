@@ -28,17 +28,17 @@ def without_digests(content):
 
     A piece after the last line feed goes too if it begins the digest line that is due.
     """
-    found, since = [], b""
-    for row in content.splitlines(keepends=True):
-        due = digest_line(since)
-        if DIGEST_LINE.fullmatch(row):
-            if row != due:
-                raise AssertionError(f"{row!r} stands where {due!r} is due")
-            since = b""
-        elif row.endswith(b"\n") or not found or not due.startswith(row):
-            found.append(row)
-        since += row
-    return b"".join(found)
+    found, since, end = [], 0, 0
+    for line in DIGEST_LINE.finditer(content):
+        due = digest_line(content[since:line.start()])
+        if line[0] != due:
+            raise AssertionError(f"{line[0]!r} stands where {due!r} is due")
+        found.append(content[end:line.start()])
+        since, end = line.span()
+    torn = len(whole_lines(content))
+    if 0 < torn < len(content) and digest_line(content[since:torn]).startswith(content[torn:]):
+        content = content[:torn]
+    return b"".join([*found, content[end:]])
 
 
 def without_any_digests(content):
