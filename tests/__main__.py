@@ -114,8 +114,12 @@ def failed(why):
     return Tally(0, 1)
 
 
-def gate():
-    """Runs the merge gate, whose lines are shown as they come, and reads the counts off its last one."""
+def gate(proved):
+    """Runs the merge gate, whose lines are shown as they come, and reads the counts off its last one.
+
+    This is called with the name of each crate that was proved.
+    """
+    begun = time.monotonic()
     try:
         ran = subprocess.Popen(["rt", "ci"], cwd=TOP, stdin=subprocess.DEVNULL, stdout=subprocess.PIPE)
     except OSError as error:
@@ -124,7 +128,12 @@ def gate():
     for last in ran.stdout:
         sys.stdout.buffer.write(last)
         sys.stdout.buffer.flush()
-    status = ran.wait()
+        found = re.fullmatch(rb"rt: (\w+) proved\n", last)
+        if found is not None:
+            proved(found[1].decode())
+    _, status, used = os.wait4(ran.pid, 0)
+    status = ran.returncode = os.waitstatus_to_exitcode(status)
+    show_minutes("the gate", time.monotonic() - begun, used.ru_utime + used.ru_stime)
     counts = re.fullmatch(rb"(\d+) passed, (\d+) failed\n?", last)
     if counts is None:
         return failed(f"rt ci ended with status {status}, and its last line has no counts")
@@ -190,10 +199,10 @@ def rows_of_proved():
     return tally
 
 
-def refused(crate=""):
-    """Tries the mutants of every crate, or of one, which the prover has to refuse."""
+def refused(trials):
+    """Tries these mutants, which the prover has to refuse."""
     try:
-        tally = Tally(*wrong.all_tried(TOP, crate))
+        tally = Tally(*trials.counts())
     except (Fault, OSError) as fault:
         return failed(f"the mutants can't be tried: {fault}")
     return tally if tally != Tally(0, 0) else failed("there is no mutant to try")
@@ -238,6 +247,23 @@ def file_by_file(reasons):
     return tally
 
 
+def gate_and_mutants():
+    """Runs the merge gate, and tries the mutants of each crate once the libraries below it are proved."""
+    trials = wrong.Trials(TOP, is_over=False)
+    with ThreadPoolExecutor(1) as pool:
+        tried = pool.submit(refused, trials)
+        try:
+            tally = gate(trials.turns.note)
+        finally:
+            trials.turns.end()
+    return tally.and_also(tried.result())
+
+
+def show_minutes(name, seconds, processor):
+    """Shows what something took by the clock and of processors, both in seconds."""
+    print(f"test: {name} took {seconds / 60:.1f} minutes by the clock, {processor / 60:.1f} of processors", flush=True)
+
+
 def timed(name, call, *given):
     """Has this call count, and shows what it took."""
     def used():
@@ -246,15 +272,13 @@ def timed(name, call, *given):
 
     begun, before = time.monotonic(), used()
     tally = call(*given)
-    minutes, processor = (time.monotonic() - begun) / 60, (used() - before) / 60
-    print(f"test: {name} took {minutes:.1f} minutes by the clock, {processor:.1f} of processors", flush=True)
+    show_minutes(name, time.monotonic() - begun, used() - before)
     return tally
 
 
 def whole():
     """Runs everything."""
-    tally = timed("the gate", gate)
-    tally = tally.and_also(timed("the mutants", refused))
+    tally = timed("the gate with the mutants", gate_and_mutants)
     tally = tally.and_also(timed("the released object", released))
     # (the gate has built the tests of the crates)
     tally = tally.and_also(timed("the program", program, "", (NO_BROKER, NO_BROWSER)))
@@ -282,7 +306,7 @@ def main(words):
     if not words:
         tally = timed("everything", whole)
     elif words[0] == "--wrong":
-        tally = refused(named)
+        tally = refused(wrong.Trials(TOP, named))
     else:
         tally = program(named, (NO_BROKER, NO_BROWSER, NO_GIT, NO_TESTS))
     print(tally)

@@ -15,12 +15,40 @@ class Stand(unittest.TestCase):
     def test_in(self):
         {}
 """
+# the mutants of a crate, or of all once the gate has ended, with the crates that it proved
+WRONG = """\
+import threading
+
+Fault = ValueError
+
+
+class Turns:
+    def __init__(self):
+        self.names, self.ended = [], threading.Event()
+
+    def note(self, name):
+        self.names.append(name)
+
+    def end(self):
+        self.ended.set()
+
+
+class Trials:
+    def __init__(self, top, only="", is_over=True):
+        self.turns, self.only, self.is_over = Turns(), only, is_over
+
+    def counts(self):
+        if not self.is_over:
+            self.turns.ended.wait()
+        print("wrong", self.only, *self.turns.names)
+        return {}
+"""
 SAME = "test: the released object is that of the proved build\n"
 NAMES = ("test_start", "test_transcripts")
 PASSED = "".join(f"{name}.Stand.test_in: ok\n" for name in NAMES)
 # what a step took, and the steps
 TOOK = re.compile(r"test: (.+) took \d+\.\d minutes by the clock, \d+\.\d of processors\n")
-STEPS = ["the gate", "the mutants", "the released object", "the program", "the proved program", "everything"]
+STEPS = ["the gate", "the gate with the mutants", "the released object", "the program", "the proved program", "everything"]
 # the tests that are run again on the program that the kit links
 AGAIN = "".join(f"test: {name} on the program that the kit links\n{name}.Stand.test_in: ok\n" for name in NAMES)
 
@@ -32,7 +60,7 @@ class Whole(ProgramTest):
         shutil.copy(TOP / "test", self.top)
         for file in ("__main__.py", "program.py"):
             shutil.copy(TOP / "tests" / file, self.top / "tests")
-        self.use("rt", "echo gate $*", "echo 7 passed, 0 failed")
+        self.use("rt", "echo gate $*", "echo rt: low proved", "echo 7 passed, 0 failed")
         self.use("build")
         self.use_wrong("3, 0")
         self.use_comparison("None")
@@ -53,8 +81,7 @@ class Whole(ProgramTest):
 
     def use_wrong(self, counts):
         """Has so many mutants be refused, and so many not."""
-        lines = ["Fault = ValueError", "", "", "def all_tried(top, crate):", "    print('wrong', crate)", f"    return {counts}"]
-        (self.top / "tests/wrong.py").write_text("\n".join(lines) + "\n")
+        (self.top / "tests/wrong.py").write_text(WRONG.format(counts))
 
     def use_test(self, statement):
         """Has this statement be the one test of the program."""
@@ -79,7 +106,7 @@ class Whole(ProgramTest):
         self.assertEqual((ended.status, ended.output.splitlines()[-1]), (1, last))
 
     def test_all_passes(self):
-        shown = f"gate ci\n7 passed, 0 failed\nwrong \n{SAME}{PASSED}{AGAIN}15 passed, 0 failed\n"
+        shown = f"gate ci\nrt: low proved\n7 passed, 0 failed\nwrong  low\n{SAME}{PASSED}{AGAIN}15 passed, 0 failed\n"
         ended = self.start()
         self.assertEqual(ended._replace(output=TOOK.sub("", ended.output)), Ended(0, shown, ""))
         self.assertEqual(TOOK.findall(ended.output), STEPS)

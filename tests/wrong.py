@@ -9,6 +9,7 @@ import shutil
 import subprocess
 import sys
 import tempfile
+import threading
 from concurrent.futures import ThreadPoolExecutor
 from pathlib import Path
 from typing import NamedTuple
@@ -67,7 +68,8 @@ class Crate:
 
     def __init__(self, top, kit, name, room):
         self.folder, self.room, self.name = top / "crates" / name, room, name
-        self.words = [kit / "bin/rattle", "check", *words(top, kit, name), "--incremental", room / "kept"]
+        # (what runs beside the gate takes what that leaves)
+        self.words = ["nice", kit / "bin/rattle", "check", *words(top, kit, name), "--incremental", room / "kept"]
         (room / "kept").mkdir()
 
     def check(self, trial):
@@ -141,11 +143,61 @@ def in_order(top, chosen):
     return sorted(chosen, key=work, reverse=True)
 
 
-def all_tried(top, only=""):
-    """Tries the mutants of every crate, or of one. Returns how many were refused, and how many weren't."""
-    kit = tools.folder()
-    chosen = {name: bodies for name, bodies in edits.of_crates(top).items() if bodies and only in ("", name)}
-    lanes = max(1, min(len(os.sched_getaffinity(0)), libraries.free_memory() // MEMORY))
-    with ThreadPoolExecutor(lanes) as pool:
-        counts = list(pool.map(lambda name: tried(top, kit, name, chosen[name]), in_order(top, chosen)))
-    return sum(refused for refused, _ in counts), sum(failed for _, failed in counts)
+class Turns:
+    """The crates whose mutants are still to be tried, in their order: each has its turn once what it stands on is proved."""
+
+    def __init__(self, known, names, is_over):
+        self.below = {name: below(known, name) for name in names}
+        self.names, self.proved, self.is_over, self.changed = list(names), set(), is_over, threading.Condition()
+
+    def note(self, name):
+        """The gate has proved this crate."""
+        with self.changed:
+            self.proved.add(name)
+            self.changed.notify_all()
+
+    def end(self):
+        """The gate is over, so nothing is waited for any more."""
+        with self.changed:
+            self.is_over = True
+            self.changed.notify_all()
+
+    def take(self, is_beside):
+        """Returns the next crate, or None where there is none left. Where it isn't one that may run beside the gate, it
+        comes after that."""
+        with self.changed:
+            while self.names:
+                may = self.is_over or is_beside
+                is_ready = (name for name in self.names if self.is_over or self.proved.issuperset(self.below[name]))
+                found = next(is_ready, None) if may else None
+                if found is not None:
+                    self.names.remove(found)
+                    return found
+                self.changed.wait()
+        return None
+
+
+class Trials:
+    """The mutants of every crate, or of one, and whose turn it is."""
+
+    def __init__(self, top, only="", is_over=True):
+        self.top = top
+        self.chosen = {name: files for name, files in edits.of_crates(top).items() if files and only in ("", name)}
+        self.turns = Turns(crates.uses(top), in_order(top, self.chosen), is_over)
+
+    def lane(self, kit, is_beside):
+        """Tries the mutants of one crate after another. Returns how many were refused, and how many weren't."""
+        refused, failed = 0, 0
+        while (name := self.turns.take(is_beside)) is not None:
+            counts = tried(self.top, kit, name, self.chosen[name])
+            refused, failed = refused + counts[0], failed + counts[1]
+        return refused, failed
+
+    def counts(self):
+        """Tries all of them, in one lane beside the gate and in as many as there are processors after it. Returns how
+        many were refused, and how many weren't."""
+        kit = tools.folder()
+        lanes = max(1, min(len(os.sched_getaffinity(0)), libraries.free_memory() // MEMORY))
+        with ThreadPoolExecutor(lanes) as pool:
+            counts = list(pool.map(lambda number: self.lane(kit, number == 0), range(lanes)))
+        return sum(refused for refused, _ in counts), sum(failed for _, failed in counts)
