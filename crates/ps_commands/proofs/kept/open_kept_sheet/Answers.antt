@@ -13,8 +13,15 @@ returns-in-Err-clause-refused g c = elim c.in-Err.ensures.refused [
 
 pub returns-clause-refused : goal.returns-clause-refused
 returns-clause-refused g c = elim c.with_reason.ensures [
-  | inl same ↦ inr (inr (inr (c.in-Ok.opened.0.raw, (c.in-Ok.opened.0.clean, c.in-Err-keep_sheet.fault,
-      c.in-Ok.ensures.clean, c.in-Err-keep_sheet.ensures.refused,
-      subst (λ f. IsInFile c.in-Err-keep_sheet.fault f) (sym same) c.in_file-fault.ensures))))
+  | inl same ↦ inr (inr (inr (
+    c.in-Ok.opened.0.raw,
+    (
+      c.in-Ok.opened.0.clean,
+      c.in-Err-keep_sheet.fault,
+      c.in-Ok.ensures.clean,
+      c.in-Err-keep_sheet.ensures.refused,
+      subst (λ f. IsInFile c.in-Err-keep_sheet.fault f) (sym same) c.in_file-fault.ensures,
+    ),
+  )))
   | inr unusable ↦ inl unusable
 ]
