@@ -4,8 +4,8 @@
 The latter needs no kit: it tests the program that `./sheet` links of the released object.
 `./test --wrong` tries the mutants alone, and `./test --wrong CRATE` those of a crate, over what is proved already.
 The last line is `N passed, M failed` over everything that ran, and the exit status is 0 only where nothing failed.
-Tests that want a browser or a broker are left out where there is none, and by `./test --program` those that want git or
-the tests of the crates, which `rt ci` builds: then `, K skipped` follows.
+Tests that want a browser or a broker are left out where there is none, and by `./test --program` those that want git, the
+kit, or the tests of the crates, which `rt ci` builds: then `, K skipped` follows.
 `./test --hunt MINUTES` looks for trouble by chance (`hunt/`, `docs/TESTING.md`), and ends in the same way.
 `./test --list` runs nothing. It prints what each test shows, and the function whose proof each mutant has to break.
 All tests of the program run file by file, each in a process of its own and some side by side.
@@ -23,7 +23,7 @@ from typing import NamedTuple
 
 import compared
 import wrong
-from program import NO_BROKER, NO_BROWSER, NO_GIT, NO_TESTS, TOP
+from program import NO_BROKER, NO_BROWSER, NO_GIT, NO_KIT, NO_TESTS, TOP
 from wrong import Fault
 
 # The tests of worked rows and of starts, which are also run on the program that the kit links.
@@ -308,7 +308,7 @@ def main(words):
     elif words[0] == "--wrong":
         tally = refused(wrong.Trials(TOP, named))
     else:
-        tally = program(named, (NO_BROKER, NO_BROWSER, NO_GIT, NO_TESTS))
+        tally = program(named, (NO_BROKER, NO_BROWSER, NO_GIT, NO_KIT, NO_TESTS))
     print(tally)
     return 1 if tally.failed else 0
 

@@ -42,6 +42,8 @@ NO_BROWSER = "there is no browser: apt-get install -y chromium"
 NO_TESTS = "the tests of the crates aren't built: rt ci"
 # .. and why a recipe may be.
 NO_GIT = "there is no git: apt-get install -y git"
+# .. and where the kit isn't there.
+NO_KIT = "there is no kit"
 # .. and why one over a broker may be.
 NO_BROKER = "there is no broker: apt-get install -y mosquitto mosquitto-clients redis-server"
 

@@ -5,9 +5,15 @@ a meter counts what is evaluated by it, and knows nothing of a second meter that
 the one by itself, or makes the other, is found in the sources, and has to be one that is known.
 """
 import re
+import shutil
+import subprocess
+import sys
 import unittest
 
-from program import TOP
+from program import NO_KIT, TOP
+
+sys.path.insert(0, str(TOP / "release"))
+import tools
 
 # What says it: a variant `Memory`, or the allocator's own error made by hand.
 SAID = re.compile(r"\b(?:\w+::Memory|AllocError)\b")
@@ -141,3 +147,16 @@ class MemoryTold(unittest.TestCase):
                      "impl From<AllocError> for Refusal {"):
             with self.subTest(text):
                 self.assertFalse(places(text))
+
+
+class Layout(unittest.TestCase):
+    """The layout of the crates' files, which the gate holds as well, but at each crate's turn."""
+
+    def test_each_file_has_the_layout_of_the_formatter(self):
+        if shutil.which("rt") is None:
+            self.skipTest(NO_KIT)
+        found = [it for part in ("src", "specs", "proofs") for it in (TOP / "crates").glob(f"*/{part}/**/*")]
+        files = [it for it in found if it.suffix in (".rt", ".antt")]
+        self.assertGreater(len(files), 100)
+        ran = subprocess.run([tools.folder() / "bin/rattle", "fmt", "--check", *files], capture_output=True, text=True)
+        self.assertEqual((ran.returncode, ran.stdout + ran.stderr), (0, ""))
