@@ -49,7 +49,8 @@ pub enum KeptTrouble {
     Busy,
     /// It can't be opened, read or written.
     Unusable(FileCause),
-    /// While it kept a sheet it couldn't be written, or it was removed, replaced or cut; without a reason memory lacked.
+    /// While it kept a sheet it couldn't be written, or it was removed, replaced or cut. Without a reason memory
+    /// lacked.
     Lost(Option<FileCause>),
 }
 
@@ -160,9 +161,9 @@ pub(crate) fn with_reason(alloc: Global, name: KeptName<'_>, fault: ProgramFault
 /// A kept file as it was found: its lines without the digest lines, and their numbers in the file.
 pub(crate) type OpenFile = (DigestedFile<FoundFile>, LineNumbers);
 
-/// Opens the file of this path, or makes it, reads it, and checks its digest lines. A file that another program keeps is
-/// a fault of its own. So is one that is no regular file, or can't be opened for reading and writing, and so is a digest
-/// line that isn't that of the lines before it. Refused as `Memory`.
+/// Opens the file of this path, or makes it, reads it, and checks its digest lines. A file that another program keeps
+/// is a fault of its own. So is one that is no regular file, or can't be opened for reading and writing, and so is a
+/// digest line that isn't that of the lines before it. Refused as `Memory`.
 ///
 /// Cost: linear in the file, and twice its memory.
 pub(crate) fn open_file<R: Files<File = File>>(

@@ -18,7 +18,8 @@ pub cover_failed : (opened raw written : List ℕ) (failed : Bool) → failed �
 cover_failed opened raw written failed e = record { is = λ well _ _ _. absurd (apart failed e well) }
 
 -- nothing was written yet
-pub cover_opened : (opened raw written : List ℕ) (failed : Bool) → opened ≡ written → IsCovered opened raw written failed
+pub cover_opened : (opened raw written : List ℕ) (failed : Bool) → opened ≡ written
+    → IsCovered opened raw written failed
 cover_opened opened raw written failed e = record {
   is = λ _ _ more _. absurd (let same = ap (λ (l : List ℕ). length l) e in omega arith);
 }
@@ -30,10 +31,12 @@ pub cover_digest : (was failed : Bool) (opened raw raw2 written written2 bytes l
     → ((held : List ℕ) → Holds hasher held → Holds between (held ++ bytes))
     → ((held : List ℕ) → Holds between held → line ≡ digest_line held ++ 10 ∷ [])
     → IsCovered opened raw2 written2 failed
-cover_digest was failed opened raw raw2 written written2 bytes line on_disk synced hasher between d going has given takes
+cover_digest was failed opened raw raw2 written written2 bytes line on_disk synced hasher between d going has given
+    takes
     is = record {
       is = λ well have _ _.
-          let h = d.going going (plain_beginning written bytes (subst (λ (l : List ℕ). HaveNoDigests (whole_lines l)) given have)) in (
+          let h = d.going going (plain_beginning written bytes (subst (λ (l : List ℕ). HaveNoDigests
+          (whole_lines l)) given have)) in (
             raw ++ bytes,
             h.held ++ bytes,
             has ∙ ap (λ (l : List ℕ). (raw ++ bytes) ++ l) (is (h.held ++ bytes) (takes h.held h.hashed)),
@@ -63,7 +66,8 @@ last_part (c ∷ w) b bytes [] e = absurd (none w (cc))
 last_part (c ∷ w) b bytes (d ∷ front) e = last_part w b bytes front (cc)
 
 -- bytes were written that end no line
-pub cover_more : (was failed : Bool) (opened raw raw2 written written2 bytes : List ℕ) → IsCovered opened raw written was
+pub cover_more : (was failed : Bool) (opened raw raw2 written written2 bytes : List ℕ)
+    → IsCovered opened raw written was
     → was ≡ false → raw2 ≡ raw ++ bytes → written2 ≡ written ++ bytes → ends_with nat_eq bytes (10 ∷ []) ≡ false
     → IsCovered opened raw2 written2 failed
 cover_more was failed opened raw raw2 written written2 [] old going has given other =
@@ -87,5 +91,6 @@ pub cover_same : (was failed : Bool) (opened raw raw2 written written2 : List �
 cover_same was failed opened raw raw2 written written2 old going has given = record {
   is = λ well have more ends.
       subst EndsInDigest (sym has) (old.is going (subst (λ (l : List ℕ). HaveNoDigests
-      (whole_lines l)) given have) (subst (λ (l : List ℕ). length opened < length l) given more) (subst EndsLine given ends));
+      (whole_lines l)) given have) (subst (λ (l : List ℕ). length opened < length l) given more)
+      (subst EndsLine given ends));
 }

@@ -6,7 +6,8 @@ use Rattle.std.proofs.Common.{◌-◌, drop, set, slice_index, take-append-drop}
 use Rattle.std.specs.Cmp.Lexicographic.{other_text, same_text}
 use Rattle.std.specs.List.{ends_with}
 use lib.Pointwise.{pointwise}
-use Rattle.std.proofs.lemmas.List.{append-nil, drop-set-lt, length-set, length-take-le, take-append-le, take_all, take_more, take_more_set}
+use Rattle.std.proofs.lemmas.List.{append-nil, drop-set-lt, length-set, length-take-le, take-append-le, take_all}
+use Rattle.std.proofs.lemmas.List.{take_more, take_more_set}
 use Rattle.std.proofs.lemmas.List.Elements.{filter-append}
 use Rattle.md5.specs.Md5.{md5}
 use Rattle.md5.proofs.StandardFacts.{length-md5}
@@ -185,7 +186,8 @@ compared_other unequal line expected held e is whole same =
     flips false f = refl
 
 pub compared_same : (unequal : Bool) (line expected held : List ℕ)
-    → unequal ≡ not (pointwise nat_eq line (take 24 expected)) → unequal ≡ false → expected ≡ digest_line held ++ 10 ∷ []
+    → unequal ≡ not (pointwise nat_eq line (take 24 expected)) → unequal ≡ false
+    → expected ≡ digest_line held ++ 10 ∷ []
     → line ≡ digest_line held
 compared_same unequal line expected held e is whole =
     same_text line (take 24 expected) (flips (pointwise nat_eq line (take 24 expected)) (sym e ∙ is))

@@ -1,6 +1,7 @@
 -- A file with digest lines, and what its caller wrote.
 use Rattle.std.proofs.Common.{◌≡◌, ◌≢◌, ◌≤◌, ℕ, Bool, true, false, List, [], ◌∷◌, ◌++◌, length, take, drop}
-use Rattle.std.proofs.Common.{refl, sym, ◌∙◌, ap, subst, arith, append_assoc, inl, inr, ◌⊎◌, length-append, take-append-drop}
+use Rattle.std.proofs.Common.{refl, sym, ◌∙◌, ap, subst, arith, append_assoc, inl, inr, ◌⊎◌, length-append}
+use Rattle.std.proofs.Common.{take-append-drop}
 use Rattle.std.proofs.lemmas.List.{append-nil, length-take-le, take_all, take-append-le}
 use mathlib.Core.List.{IsPrefix}
 use Rattle.md5.specs.Md5.{Holds}
@@ -11,7 +12,8 @@ use Rattle.ps_keep.specs.Traces.{Given}
 use Rattle.ps_keep.specs.Lines.{AreLines, IsLine, text, whole_lines}
 use Rattle.ps_keep.proofs.CrashLemmas.{front_line, prefix_trans}
 use Rattle.ps_keep.proofs.DigestLemmas.{begins_anew, digest-cons, digest_is_line, digested-append, has_form}
-use Rattle.ps_keep.proofs.DigestLemmas.{others-append, others_are, plain_back, plain_digested, plain_front, plain_others}
+use Rattle.ps_keep.proofs.DigestLemmas.{others-append, others_are, plain_back, plain_digested, plain_front}
+use Rattle.ps_keep.proofs.DigestLemmas.{plain_others}
 use Rattle.ps_keep.proofs.DigestLemmas.{plain_since, since-append}
 use Rattle.ps_keep.proofs.LineLemmas.{AreLines-append, Parts, parts, parts_lines, text-append, whole_are, whole_text}
 
@@ -152,7 +154,11 @@ crash_append raw written held bytes part on_disk synced no_more m have begins ol
       | inl front ↦
           let r = old left (record { front = front; enough = is.enough }) in (
             r.0,
-            record { front = prefix_trans r.0 written (written ++ bytes) r.1.front (after written bytes); enough = r.1.enough },
+            record {
+              front = prefix_trans r.0 written (written ++ bytes) r.1.front
+                  (after written bytes);
+              enough = r.1.enough;
+            },
             r.2,
           )
       | inr cut ↦
@@ -160,7 +166,8 @@ crash_append raw written held bytes part on_disk synced no_more m have begins ol
           let inside : IsPrefix x bytes = prefix_trans x part bytes cut.2 begins in
           let whole : (written ++ x) ++ inside.0 ≡ written ++ bytes = append_assoc written x inside.0
           ∙ ap (λ (l : List ℕ). written ++ l) inside.1 in
-          let plain : HaveNoDigests (whole_lines (written ++ x)) = plain_beginning (written ++ x) inside.0 (subst (λ (l :
+          let plain : HaveNoDigests (whole_lines (written ++ x)) = plain_beginning (written ++ x) inside.0 (subst
+          (λ (l :
           List ℕ). HaveNoDigests (whole_lines l)) (sym whole) have) in (
             written ++ x,
             record {
@@ -212,7 +219,8 @@ crash_digest raw written held part on_disk synced m no_more none some begins old
       | inr cut ↦ (
         written,
         record { front = ([], append-nil written); enough = no_more },
-        subst (λ (l : List ℕ). ReadsAs l written) (sym cut.1) (digest_part raw written held cut.0 m none some (prefix_trans
+        subst (λ (l : List ℕ). ReadsAs l written) (sym cut.1) (digest_part raw written held cut.0 m none some
+            (prefix_trans
             cut.0 part (digest_line held ++ 10 ∷ []) cut.2 begins)),
       )
     ]
@@ -294,7 +302,8 @@ part_written raw written bytes part on_disk synced has_failed hasher next d begi
           let t = takes well in
           record {
             held = h.held ++ bytes;
-            mirrors = subst (λ (l : List ℕ). Mirrors (raw ++ l) (written ++ bytes) (h.held ++ bytes)) (sym t.0) (mirror_more
+            mirrors = subst (λ (l : List ℕ). Mirrors (raw ++ l) (written ++ bytes) (h.held ++ bytes)) (sym t.0)
+                (mirror_more
                 raw written h.held bytes h.mirrors have);
             hashed = t.1 h.held h.hashed;
           };
@@ -303,7 +312,8 @@ part_written raw written bytes part on_disk synced has_failed hasher next d begi
           let h = d.going refl before in
           crash_append raw written h.held bytes part on_disk synced d.no_more h.mirrors have begins (d.crashes before);
       cut = λ have.
-          still_cut raw written part bytes on_disk synced d.within d.no_more (d.cut (plain_beginning written bytes have));
+          still_cut raw written part bytes on_disk synced d.within d.no_more (d.cut
+          (plain_beginning written bytes have));
     }
 
 -- bytes that end in a line feed are written, and then the digest line or a part of it
@@ -328,16 +338,20 @@ digest_written raw written bytes start part line on_disk synced has_failed hashe
           let all : part ≡ digest_line h.held ++ 10 ∷ [] = whole well ∙ e in
           record {
             held = digest_line h.held ++ 10 ∷ [];
-            mirrors = subst (λ (l : List ℕ). Mirrors ((raw ++ bytes) ++ l) (written ++ bytes) (digest_line h.held ++ 10 ∷
-                [])) (sym all) (mirror_digest (raw ++ bytes) (written ++ bytes) h.held h.mirrors (no_rest h.held h.mirrors));
+            mirrors = subst (λ (l : List ℕ). Mirrors ((raw ++ bytes) ++ l) (written ++ bytes)
+                (digest_line h.held ++ 10 ∷
+                [])) (sym all) (mirror_digest (raw ++ bytes) (written ++ bytes) h.held h.mirrors
+                (no_rest h.held h.mirrors));
             hashed = subst (Holds next) e hashed;
           };
       crashes = λ have.
           let h = on.going refl have in
-          crash_digest (raw ++ bytes) (written ++ bytes) h.held part on_disk synced h.mirrors on.no_more (no_rest h.held h.mirrors)
+          crash_digest (raw ++ bytes) (written ++ bytes) h.held part on_disk synced h.mirrors on.no_more
+          (no_rest h.held h.mirrors)
           (some_line h.held h.mirrors) (subst (IsPrefix part) (is h.held h.hashed) begins) (on.crashes have);
       cut = λ have.
-          subst (λ (l : List ℕ). ReadsAs l (take synced (written ++ bytes))) (sym (take-append-le on_disk (raw ++ bytes) part
+          subst (λ (l : List ℕ). ReadsAs l (take synced (written ++ bytes))) (sym (take-append-le on_disk
+          (raw ++ bytes) part
           on.within)) (on.cut have);
     }
   where
@@ -346,7 +360,8 @@ digest_written raw written bytes start part line on_disk synced has_failed hashe
     all_is held m = append_assoc raw start (10 ∷ []) ∙ ap (λ (l : List ℕ). raw ++ l) (sym ends) ∙ m.has
 
     some_line : (held : List ℕ) (m : Mirrors (raw ++ bytes) (written ++ bytes) held) → m.lines ≢ []
-    some_line held m nothing = empty (raw ++ start) (all_is held m ∙ ap (λ (ls : List (List ℕ)). text ls ++ m.rest) nothing
+    some_line held m nothing = empty (raw ++ start) (all_is held m ∙ ap (λ (ls : List
+        (List ℕ)). text ls ++ m.rest) nothing
         ∙ ended (text m.lines) m.rest (raw ++ start) m.open_end (all_is held m))
       where
         empty : (l : List ℕ) → l ++ 10 ∷ [] ≡ [] → ⊥
@@ -384,11 +399,14 @@ failed_digested raw written on_disk synced was hasher d = record {
 }
 
 -- the same, of a device as it is after a call that failed
-pub after_part : (was failed : Bool) (raw raw2 written written2 bytes : List ℕ) (on_disk on_disk2 synced synced2 count : ℕ)
-    (hasher next : Md5) → IsDigested raw on_disk written synced was hasher → was ≡ false → raw2 ≡ raw ++ take count bytes
+pub after_part : (was failed : Bool) (raw raw2 written written2 bytes : List ℕ)
+    (on_disk on_disk2 synced synced2 count : ℕ)
+    (hasher next : Md5) → IsDigested raw on_disk written synced was hasher → was ≡ false
+    → raw2 ≡ raw ++ take count bytes
     → on_disk2 ≡ on_disk → written2 ≡ written ++ bytes → synced2 ≡ synced → failed ≡ true
     → IsDigested raw2 on_disk2 written2 synced2 failed next
-after_part was failed raw raw2 written written2 bytes on_disk on_disk2 synced synced2 count hasher next d going e f g h i =
+after_part was failed raw raw2 written written2 bytes on_disk on_disk2 synced synced2 count hasher next d going e f
+    g h i =
     rw (e, f, g, h, i)
     (part_written raw written bytes (take count bytes) on_disk synced true hasher next
     (subst (λ (b : Bool). IsDigested raw on_disk written synced b hasher) going d)
@@ -400,7 +418,8 @@ pub after_bytes : (was failed : Bool) (raw raw2 written written2 bytes : List �
     → on_disk2 ≡ on_disk → written2 ≡ written ++ bytes → synced2 ≡ synced → failed ≡ false
     → ((held : List ℕ) → Holds hasher held → Holds next (held ++ bytes))
     → IsDigested raw2 on_disk2 written2 synced2 failed next
-after_bytes was failed raw raw2 written written2 bytes on_disk on_disk2 synced synced2 hasher next d going e f g h i takes =
+after_bytes was failed raw raw2 written written2 bytes on_disk on_disk2 synced synced2 hasher next d going e f g h i
+    takes =
     rw (e, f, g, h, i)
     (part_written raw written bytes bytes on_disk synced false hasher next
     (subst (λ (b : Bool). IsDigested raw on_disk written synced b hasher) going d) ([], append-nil bytes) (λ _. (
@@ -412,7 +431,8 @@ after_bytes was failed raw raw2 written written2 bytes on_disk on_disk2 synced s
 pub after_digest : (was failed : Bool) (raw raw2 written written2 bytes start part line : List ℕ)
     (on_disk on_disk2 synced synced2 : ℕ) (hasher between next : Md5) → IsDigested raw on_disk written synced was hasher
     → was ≡ false → bytes ≡ start ++ 10 ∷ [] → raw2 ≡ (raw ++ bytes) ++ part → on_disk2 ≡ on_disk
-    → written2 ≡ written ++ bytes → synced2 ≡ synced → ((held : List ℕ) → Holds hasher held → Holds between (held ++ bytes))
+    → written2 ≡ written ++ bytes → synced2 ≡ synced → ((held : List ℕ) → Holds hasher held → Holds between
+    (held ++ bytes))
     → ((held : List ℕ) → Holds between held → line ≡ digest_line held ++ 10 ∷ []) → Holds next line
     → IsPrefix part line → (failed ≡ false → part ≡ line)
     → IsDigested raw2 on_disk2 written2 synced2 failed next
@@ -435,7 +455,8 @@ after_sync was failed raw raw2 on_disk on_disk2 given given2 hasher d going same
     ∙ ap (λ (l : List ℕ). length l) same) refl))
 
 -- .. and as a start makes it
-pub after_keep : (failed : Bool) (raw raw2 clean piece : List ℕ) (whole count on_disk : ℕ) (given : Given) (hasher : Md5)
+pub after_keep : (failed : Bool) (raw raw2 clean piece : List ℕ) (whole count on_disk : ℕ) (given : Given)
+    (hasher : Md5)
     → IsRead raw clean whole hasher → take count clean ≡ text (whole_lines clean) → raw2 ≡ take whole raw
     → on_disk ≡ whole → failed ≡ false → given ≡ record { written = piece; synced = length piece }
     → piece ≡ take count clean → IsDigested raw2 on_disk given.written given.synced failed hasher

@@ -49,7 +49,8 @@ abbrev pub since : List ℕ → List (List ℕ) → List ℕ
 since before [] = before
 since before (line ∷ lines) = since (after_line before line) lines
 
--- DIGESTED: each digest line tells the digest of the bytes from the last one on, where these bytes came before the lines
+-- DIGESTED: each digest line tells the digest of the bytes from the last one on, where these bytes came before the
+-- lines
 abbrev pub AreDigested : List ℕ → List (List ℕ) → Type 0
 AreDigested before [] = ⊤
 AreDigested before (line ∷ lines) = (is_digest_line line ≡ true → line ≡ digest_line before)

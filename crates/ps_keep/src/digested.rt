@@ -1,7 +1,9 @@
 //! A file with digest lines, read and written as one without them.
-ghost use Rattle.std.specs.Prelude.{◌≡◌, ◌-◌, ◌≤◌, ℕ, List, IfOk, IfErr, length, nat_lt, slice_get, take};
+ghost use Rattle.md5.specs.Md5.{Holds};
+ghost use Rattle.std.specs.Prelude.{◌≡◌, ◌++◌, ◌-◌, ◌≤◌, ℕ, List, IfOk, IfErr, drop, length, nat_lt, slice_get, take};
 ghost use Rattle.std.specs.List.{count_by};
-ghost use Rattle.ps_keep.specs.Digests.{AreNumbered, HaveNoDigests, IsClean, ReadsAfterCrashes, ReadsAs, WrongAfterTears, others};
+ghost use Rattle.ps_keep.specs.Digests.{AreNumbered, HaveNoDigests, IsClean, ReadsAfterCrashes, ReadsAs};
+ghost use Rattle.ps_keep.specs.Digests.{WrongAfterTears, others};
 ghost use Rattle.ps_keep.specs.Digested.{IsCovered, IsFault, IsRead};
 ghost use Rattle.ps_keep.specs.Lines.{whole_lines};
 
@@ -82,6 +84,14 @@ impl LineNumbers {
     }
 }
 
+/// Has a hasher take in the bytes from this place on.
+fn hash_from(hasher: &mut Md5, bytes: &[u8], start: usize)
+    requires within { start ≤ length bytes.now }
+    ensures hashed { (held : List ℕ) → Holds hasher.old held → Holds hasher.new (held ++ drop start bytes.now) }
+{
+    hasher.update(&bytes[start..]);
+}
+
 /// Checks the digest lines of these bytes, and copies the others.
 fn read_lines(alloc: Global, bytes: &[u8]) -> Result<CleanLines, DigestFault>
     ensures read { IfOk result (λ r. IsRead bytes.now r.clean.items r.whole r.hasher) }
@@ -91,12 +101,15 @@ fn read_lines(alloc: Global, bytes: &[u8]) -> Result<CleanLines, DigestFault>
     let mut clean = Vec::with_capacity(alloc, bytes.len())?;
     let mut before = Vec::new(alloc);
     let mut hasher = Md5::new();
+    let mut hashed = 0;
     let mut rest = bytes;
     let mut number = 0;
     let mut others = 0;
     'lines: while let Some((line, after)) = first_line(rest) {
         number += 1;
         if is_digest_line(line) {
+            hash_from(&mut hasher, clean.as_slice(), hashed);
+            hashed = clean.len();
             let expected = next_digest_line(&mut hasher);
             if line != &expected[..expected.len() - 1] {
                 return Err(DigestFault::Line(number));
@@ -105,12 +118,11 @@ fn read_lines(alloc: Global, bytes: &[u8]) -> Result<CleanLines, DigestFault>
             before.push_reserved(others);
         } else {
             append_line(&mut clean, line)?;
-            hasher.update(line);
-            hasher.update(b"\n");
             others += 1;
         }
         rest = after;
     }
+    hash_from(&mut hasher, clean.as_slice(), hashed);
     let whole = count_whole(bytes);
     if whole == 0 {
         clean.extend_from_slice(bytes)?;
@@ -290,10 +302,10 @@ impl<D: Device + Drop> Device for DigestedDevice<D> {
     }
 }
 
-/// Shows that such a file ends in a digest line as soon as something was written and ends a line. A start takes it as any
-/// crash leaves it, and reads what a crash could leave of the bytes that the caller wrote. After a cut it reads those
-/// that were synced. If a crash has torn the end, a wrong digest line stands after all lines that were on the disk. The
-/// caller's own lines must not have the form of digest lines.
+/// Shows that such a file ends in a digest line as soon as something was written and ends a line. A start takes it as
+/// any crash leaves it, and reads what a crash could leave of the bytes that the caller wrote. After a cut it reads
+/// those that were synced. If a crash has torn the end, a wrong digest line stands after all lines that were on the
+/// disk. The caller's own lines must not have the form of digest lines.
 pub fn digested_files_survive<D: Device + Drop>(device: &DigestedDevice<D>)
     ensures crashes { HaveNoDigests (whole_lines device.now.written)
         → ReadsAfterCrashes device.now.raw device.now.on_disk device.now.written device.now.synced }

@@ -20,12 +20,12 @@
 //!   without digests.
 //!
 //! A [`DigestedFile`] is a found file that has digest lines, by which a start sees damage. A digest line is the word
-//! `replica`, a space and 16 hex digits: the first 8 bytes of the MD5 of all bytes from the last digest line on, or from
-//! the file's beginning. [`DigestedFile::read`] checks each of them, and returns the number of the first wrong one. Then
-//! the file's bytes are its other lines, and its device appends a digest line after each write that ends a line. So a
-//! journal knows nothing of digests, and each sync of one writes a digest line. A file without digest lines gets them
-//! from the next sync on. The lines after the last digest line, left by a crash, aren't checked. MD5 shows accidents, not
-//! intent.
+//! `replica`, a space and 16 hex digits. They are the first 8 bytes of an MD5: that of all bytes from the last digest
+//! line on, or from the file's beginning. [`DigestedFile::read`] checks each of them, and returns the number of the
+//! first wrong one. Then the file's bytes are its other lines, and its device appends a digest line after each write
+//! that ends a line. So a journal knows nothing of digests, and each sync of one writes a digest line. A file without
+//! digest lines gets them from the next sync on. The lines after the last digest line, left by a crash, aren't checked.
+//! MD5 shows accidents, not intent.
 //!
 //! Only [`open`] cuts a found file, and takes it. So a caller that reads a file first and refuses it leaves it as it
 //! was.
@@ -39,8 +39,8 @@
 //! A file has the lines `ab` and `cd` and a piece `e`: [`first_line`] reads `ab`, then `cd`, then none, and [`open`]
 //! cuts `e` off. After a note of `fg` and a sync the file has `ab`, `cd` and `fg`, each with its line feed.
 //!
-//! Cost: a found file has its bytes in memory; each sync of a journal is one append to the file and one sync of it. With
-//! digest lines the file is in memory twice until [`open`] takes it, and each sync appends twice.
+//! Cost: a found file has its bytes in memory; each sync of a journal is one append to the file and one sync of it.
+//! With digest lines the file is in memory twice until [`open`] takes it, and each sync appends twice.
 #![tactic(auto)]
 
 mod device;

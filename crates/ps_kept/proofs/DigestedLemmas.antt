@@ -56,7 +56,8 @@ some_line : (l : List ℕ) (ls : List (List ℕ)) → l ∷ ls ≡ [] → ⊥
 some_line l ls e = cc
 
 -- what is read of the other lines is what is read of these bytes
-reads_clean : (replica : ℕ) (left bytes clean : List ℕ) (history : List Entries) → ReadsAs left bytes → IsClean left clean
+reads_clean : (replica : ℕ) (left bytes clean : List ℕ) (history : List Entries) → ReadsAs left bytes
+    → IsClean left clean
     → Reads replica bytes history → Reads replica clean history
 reads_clean replica left bytes clean history reads is (inl (empty, none)) = inl (
   record {
@@ -67,7 +68,8 @@ reads_clean replica left bytes clean history reads is (inl (empty, none)) = inl 
 )
   where
     torn : (lines : List (List ℕ)) → whole_lines left ≡ lines → IsPrefix clean (replica_line replica)
-    torn [] e = subst (λ (l : List ℕ). IsPrefix l (replica_line replica)) (reads.no_line e ∙ sym (is.no_line e)) empty.torn
+    torn [] e = subst (λ (l : List ℕ). IsPrefix l (replica_line replica)) (reads.no_line e ∙ sym
+        (is.no_line e)) empty.torn
     torn (l ∷ ls) e =
         let nothing : clean ≡ [] = is.some_line (λ f. some_line l ls (sym e ∙ f)) ∙ ap text (sym reads.lines
         ∙ empty.no_line) in

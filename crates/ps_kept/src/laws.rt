@@ -1,5 +1,6 @@
 //! Laws of kept sheets, as functions that do nothing: each is its contract.
-ghost use Rattle.ps_kept.specs.Laws.{CrashesKeepDigested, CrashesKeepSheets, FaultsComeAfter, OneHistory, ReadAgain, ReadFilesOpen};
+ghost use Rattle.ps_kept.specs.Laws.{CrashesKeepDigested, CrashesKeepSheets, FaultsComeAfter, OneHistory, ReadAgain};
+ghost use Rattle.ps_kept.specs.Laws.{ReadFilesOpen};
 ghost use Rattle.ps_kept.specs.Laws.{SquashedFilesRead, StartsMayCrash, StaysNoted, ToldLinesHaveNoDigests};
 
 /// States that a journal still fits a history that has grown: it has a beginning of the longer one, too.
@@ -13,8 +14,8 @@ pub fn crashes_keep_sheets()
     ensures { CrashesKeepSheets }
 {}
 
-/// States the same of a file with digest lines: a crash leaves them right, and the next start reads as much in the other
-/// lines. For no line that tells a history has the form of a digest line.
+/// States the same of a file with digest lines: a crash leaves them right, and the next start reads as much in the
+/// other lines. For no line that tells a history has the form of a digest line.
 pub fn crashes_keep_digested_sheets()
     ensures lines { ToldLinesHaveNoDigests }
     ensures crash { CrashesKeepDigested }

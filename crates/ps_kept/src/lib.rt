@@ -18,8 +18,8 @@
 //! - [`SheetKeeper`]'s `sync`: the whole history is durable. At whatever moment a crash comes, the next start reads
 //!   a beginning of the history that has all that was durable (`Outlives`).
 //! - The laws: a file has at most one history, and no start refuses a file that a crash has left. The file after a
-//!   start reads as before. A squashed file reads as a history with the same join. A crash leaves as much of a file with
-//!   digest lines (`DigestedFile` of `ps_keep`).
+//!   start reads as before. A squashed file reads as a history with the same join. A crash leaves as much of a file
+//!   with digest lines (`DigestedFile` of `ps_keep`).
 //!
 //! Code that shares a sheet between sessions adds lines by [`note_deltas`].
 //!

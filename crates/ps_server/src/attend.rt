@@ -33,8 +33,9 @@ use std::time::{Clock, Duration};
 /// reply that is no longer.
 const ROOM: usize = 2 * PIECE_BYTES;
 
-/// For how many milliseconds a closed browser may go on sending. Its slot stays taken meanwhile.
-const DRAIN: u64 = 100;
+/// For how many milliseconds it is read what a browser has still sent, so that it gets the reason of the end. Its slot
+/// stays taken meanwhile.
+const DRAIN: u64 = 1;
 
 /// The end of a server's session; if the sessions have a keeper, all that it was sent is kept.
 pub(crate) type SessionEnd<L> = Attended<L, Option<DurablePosition<L>>>;

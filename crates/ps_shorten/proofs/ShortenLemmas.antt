@@ -104,7 +104,8 @@ changes_of replica bytes history (inr begun) = told_count replica (whole_lines b
 -- ---- the file after it
 
 -- what whole lines are squashed to tells the same as the file
-abbrev pub tells_the_same : (replica : ℕ) (old made : List ℕ) (history : List Entries) → 1 ≤ replica → replica ≤ REPLICAS
+abbrev pub tells_the_same : (replica : ℕ) (old made : List ℕ) (history : List Entries) → 1 ≤ replica
+    → replica ≤ REPLICAS
     → SquashedFilesRead → whole_lines (text (whole_lines old)) ≡ whole_lines old → All NoReturn (whole_lines old)
     → Reads replica old history → IsSquashed (text (whole_lines old)) made → TellsTheSame replica old made
 tells_the_same replica old made history low high law twice each read squashed =

@@ -4,7 +4,8 @@ use Rattle.ps_keep.proofs.digested.read_lines.Given as goal
 
 abbrev pub invariant-lines : goal.invariant-lines
 invariant-lines l = record {
-  so_far : ReadSoFar l.bytes l.rest l.clean.items l.hasher l.number l.before.items l.others;
+  so_far : ReadSoFar l.bytes l.rest l.clean.items l.hasher l.hashed l.number l.before.items
+      l.others;
   fewer : l.others ≤ l.number;
 }
 

@@ -32,7 +32,8 @@ returns-clause-covered g c =
     let told = c.converse-ended.ensures.covered tt in (
       told.0,
       told.1,
-      rw (c.leave-pass.ensures.pass, c.leave.ensures) (rw (c.new-publisher.ensures.same ∙ c.new-seat.ensures) at told.2),
+      rw (c.leave-pass.ensures.pass, c.leave.ensures) (rw (c.new-publisher.ensures.same
+          ∙ c.new-seat.ensures) at told.2),
     )
 
 pub returns-clause-attended : goal.returns-clause-attended

@@ -13,7 +13,8 @@ invariant_of-self g c =
     let part = c.in_err-append.ensures.part in (
       after_part _ _ _ _ _ _ c.args.bytes.now _ _ _ _ part.0 _ _ c.self.invariant.0
           (ap (λ v. v.has_failed) c.self.view_is ∙ c.requires.open) part.1 c.in_err-append.ensures.synced
-          (ap (λ given. given.written) c.note.ensures) (ap (λ given. given.synced) c.note.ensures) c.in_err-append.ensures.failed,
+          (ap (λ given. given.written) c.note.ensures) (ap (λ given. given.synced) c.note.ensures)
+          c.in_err-append.ensures.failed,
       cover_failed _ _ _ _ c.in_err-append.ensures.failed,
     )
 
@@ -37,7 +38,8 @@ invariant_of-self-in_err-append-2 g c =
           (c.in_err-append-2.ensures.synced ∙ c.in_ok-append.ensures.synced)
           (ap (λ given. given.written) c.note.ensures) (ap (λ given. given.synced) c.note.ensures) c.update.ensures
           c.next_digest_line-line.ensures.line c.next_digest_line-line.ensures.chain
-          (drop part.0 line, take-append-drop part.0 line) (λ no. absurd (let failed = c.in_err-append-2.ensures.failed in cc)),
+          (drop part.0 line, take-append-drop part.0 line) (λ no. absurd
+          (let failed = c.in_err-append-2.ensures.failed in cc)),
       cover_failed _ _ _ _ c.in_err-append-2.ensures.failed,
     )
 
@@ -60,7 +62,8 @@ invariant_of-self-in-Continue-branch-2 g c =
           (ap (λ given. given.written) c.note.ensures) (ap (λ given. given.synced) c.note.ensures) c.update.ensures
           c.next_digest_line-line.ensures.line c.next_digest_line-line.ensures.chain
           ([], append-nil line) (λ _. refl),
-      cover_digest _ _ _ _ _ _ _ c.args.bytes.now line _ _ _ _ c.self.invariant.0 (ap (λ v. v.has_failed) c.self.view_is ∙ c.requires.open)
+      cover_digest _ _ _ _ _ _ _ c.args.bytes.now line _ _ _ _ c.self.invariant.0 (ap
+          (λ v. v.has_failed) c.self.view_is ∙ c.requires.open)
           (c.in_ok-append-2.ensures.appended ∙ ap (λ (l : List ℕ). l ++ line) c.in_ok-append.ensures.appended)
           (ap (λ given. given.written) c.note.ensures) c.update.ensures c.next_digest_line-line.ensures.line,
     )
@@ -72,6 +75,7 @@ invariant_of-self-else-ends_with g c = (
       (ap (λ v. v.has_failed) c.self.view_is ∙ c.requires.open) c.in_ok-append.ensures.appended
       c.in_ok-append.ensures.synced (ap (λ given. given.written) c.note.ensures) (ap (λ given. given.synced)
       c.note.ensures) c.in_ok-append.ensures.failed c.update.ensures,
-  cover_more _ _ _ _ _ _ _ c.args.bytes.now c.self.invariant.1 (ap (λ v. v.has_failed) c.self.view_is ∙ c.requires.open) c.in_ok-append.ensures.appended (ap (λ given. given.written) c.note.ensures)
+  cover_more _ _ _ _ _ _ _ c.args.bytes.now c.self.invariant.1 (ap (λ v. v.has_failed) c.self.view_is
+      ∙ c.requires.open) c.in_ok-append.ensures.appended (ap (λ given. given.written) c.note.ensures)
       (sym c.ends_with.ensures.value ∙ c.if-ends_with.false),
 )

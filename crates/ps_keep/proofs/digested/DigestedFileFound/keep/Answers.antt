@@ -21,7 +21,8 @@ pub invariant_of-result : goal.invariant_of-result
 invariant_of-result g c =
     let clean = c.self.inside.clean.items in
     let written : c.note.new.self.given.written ≡ take c.args.count clean = noted_first clean c.deref.result.now
-    c.args.count c.new-trace.result.given c.note.new.self.given c.note.ensures c.new-trace.ensures c.deref.ensures.value in
+    c.args.count c.new-trace.result.given c.note.new.self.given c.note.ensures c.new-trace.ensures
+    c.deref.ensures.value in
     let opened : c.note-3.new.self.given.written ≡ take c.args.count clean = noted_first clean c.deref-2.result.now
     c.args.count c.new-opened.result.given c.note-3.new.self.given c.note-3.ensures c.new-opened.ensures
     c.deref-2.ensures.value in (
