@@ -1,5 +1,6 @@
 """The hunt for dear lines: it finds each program that is planted there and slow at something, and no other."""
 import re
+import unittest
 
 from hunt import costs_by_chance, finds
 from hunt.deltas import read_delta
@@ -115,3 +116,11 @@ class Lines(ProgramTest):
                 word, _, rest = line.partition(b" ")
                 with self.subTest(line=line[:60]):
                     self.assertTrue(word == b"set" or read_delta(rest) is not None)
+
+
+class Contents(unittest.TestCase):
+    def test_a_number_has_64_bits_wherever_it_begins(self):
+        for value, wanted in ((2**63 - 1, b"9223372036854775807"), (2**63, b"-9223372036854775808"),
+                              (-(2**63) - 1, b"9223372036854775807"), (-1, b"-1")):
+            with self.subTest(value=value):
+                self.assertEqual(costs_by_chance.number(0, value, 1), wanted)

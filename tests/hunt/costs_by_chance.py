@@ -5,6 +5,7 @@ and `edit` is an edit after all lines. Each number has a sense: past the last co
 """
 from sizes import COLUMNS, LONGEST_DELTA
 
+from .functions import LEAST, MOST
 from .places import NAMES, ROWS
 from .plans import Plan
 
@@ -76,8 +77,8 @@ def deep(cell, opening, depth, *at):
 
 
 def number(cell, value, step):
-    """A number, so much greater with each cell."""
-    return b"%d" % (value + cell * step)
+    """A number, so much greater with each cell; past the greatest one the least one follows."""
+    return b"%d" % (LEAST + (value + cell * step - LEAST) % (MOST - LEAST + 1))
 
 
 def text(_, length):
