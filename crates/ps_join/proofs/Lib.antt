@@ -1,1 +1,2 @@
 mod JoinLemmas
+mod RelayLemmas

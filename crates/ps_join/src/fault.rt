@@ -1,4 +1,4 @@
-//! Why a join ends.
+//! Why a join ends, or a relay.
 use ps_peers::SyncFault;
 
 /// Which of the two peers of a join.
@@ -17,4 +17,13 @@ pub struct JoinFault {
     pub end: End,
     /// what that peer did, or its connection
     pub fault: SyncFault,
+}
+
+/// Why a relay ended early.
+#[derive(Debug, Drop)]
+pub enum RelayFault {
+    /// The output failed.
+    Output,
+    /// The server failed, refused or closed, in this way.
+    Server(SyncFault),
 }

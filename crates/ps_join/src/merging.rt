@@ -1,5 +1,5 @@
 //! One delta, merged at a peer.
-ghost use Rattle.std.specs.Prelude.{◌≡◌, ◌<◌, Err, IfOk, IfSome, OnErr};
+ghost use Rattle.std.specs.Prelude.{◌≡◌, ◌<◌, Err, IfOk, IfSome, OnErr, flat_map};
 ghost use Rattle.ps_grid.specs.declared.refusal.Refusal.TheVariants as Refusal;
 ghost use Rattle.ps_join.specs.Joins.{IsMerged, Moves, merge_text};
 ghost use Rattle.ps_lines.specs.Feeding.{without_return};
@@ -39,6 +39,13 @@ fn position_after(reply: &[u8], position: u64) -> Option<u64>
     }
 }
 
+/// Returns the pieces of the line that merges the delta of this line, with its line feed.
+pub(crate) fn merge_pieces(delta: &[u8]) -> [&[u8]; 3]
+    ensures { flat_map (λ piece. piece.now) result ≡ merge_text delta.now }
+{
+    [b"merge ", delta, b"\n"]
+}
+
 /// Merges a delta at a peer, and returns the position there afterwards.
 pub(crate) fn merge<S: Source + Drop, K: Sink + Drop>(
     alloc: Global,
@@ -52,7 +59,7 @@ pub(crate) fn merge<S: Source + Drop, K: Sink + Drop>(
     ensures taken { OnErr result (TakesLine peer.old.to_come peer.new.to_come) }
     ensures failed { result ≡ Err (Refused Refusal.Device) → peer.old.failures < peer.new.failures }
 {
-    let request: [&[u8]; 3] = [b"merge ", delta, b"\n"];
+    let request = merge_pieces(delta);
     match peer.ask(request.as_slice()) {
         Ok(()) => {}
         Err(fault) => return Err(fault_of(fault)),

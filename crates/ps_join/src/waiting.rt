@@ -20,7 +20,7 @@ pub trait Attention {
 }
 
 /// Reads the reply to a wait, after bytes that may end it, and that have no reply of their own.
-fn end_wait<S: Source + Drop, K: Sink + Drop>(
+pub(crate) fn end_wait<S: Source + Drop, K: Sink + Drop>(
     alloc: Global,
     peer: &mut Peer<S, K>,
     position: u64,

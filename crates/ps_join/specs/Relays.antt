@@ -1,0 +1,213 @@
+-- What a relay asks its server, and that it writes each change there but those that came in by it.
+use Rattle.std.specs.Prelude.{◌≡◌, ◌≢◌, ◌⊎◌, ◌<◌, ◌≤◌, ◌+◌, ℕ, true, List, [], ◌∷◌, ◌++◌, Option, Some, None}
+use Rattle.std.specs.Prelude.{codes, nat_eq}
+use Rattle.std.specs.Io.KnownBytes.{Appends, Consumes, IsAtEnd}
+use Rattle.std.specs.List.{All, Contains, starts_with}
+use Rattle.ps_grid.specs.declared.refusal.Refusal.TheVariants.{Device}
+use Rattle.ps_join.specs.Joins.{EndsWait, merge_text}
+use Rattle.ps_join.specs.declared.bringing.Brought.{Brought}
+use Rattle.ps_join.specs.declared.bringing.Brought.TheVariants as broughts
+use Rattle.ps_join.specs.declared.fault.RelayFault.{RelayFault}
+use Rattle.ps_join.specs.declared.fault.RelayFault.TheVariants as faults
+use Rattle.ps_lines.specs.Feeding.{HasNoFeed, without_return}
+use Rattle.ps_lines.specs.Streams.{Answering, Run, TakesLine, stream_of}
+use Rattle.ps_peers.specs.Asking.{no_seat, number_after}
+use Rattle.ps_peers.specs.Exchange.{IsGroup, TellsEnd, TellsNews, pull_most, wait_text}
+use Rattle.ps_peers.specs.Peers.{IsReplied, PeerView, PutsSome}
+use Rattle.ps_peers.specs.declared.peer_pull.SyncFault.TheVariants.{Refused}
+
+-- how far a relay has come
+pub record Course : Type 0 where
+  -- each change of the server up to this number was written, or came in
+  pub position : ℕ
+  -- the numbers that changes that came in have at the server
+  pub numbers : List ℕ
+  -- the merge lines that came in and had a reply, in order
+  pub merged : List ℕ
+  -- the merge lines that were written, in order
+  pub told : List ℕ
+
+abbrev pub unbegun : Course
+unbegun = record { position = 0; numbers = []; merged = []; told = [] }
+
+-- after a group of changes that was written, up to this number
+abbrev pub tells : Course → List ℕ → ℕ → Course
+tells course delta last = record {
+  position = last;
+  numbers = course.numbers;
+  merged = course.merged;
+  told = course.told ++ merge_text delta;
+}
+
+-- .. after a delta that came in, which became the changes of these numbers: one or none
+abbrev pub takes : Course → List ℕ → List ℕ → Course
+takes course delta numbers = record {
+  position = course.position;
+  numbers = course.numbers ++ numbers;
+  merged = course.merged ++ merge_text delta;
+  told = course.told;
+}
+
+-- .. with another position
+abbrev pub moved_to : Course → ℕ → Course
+moved_to course position =
+    record { position = position; numbers = course.numbers; merged = course.merged; told = course.told }
+
+-- no change after the first number and up to the last one came in
+abbrev pub AreOutside : List ℕ → ℕ → ℕ → Type 0
+AreOutside numbers first last = All (λ n. (n ≤ first) ⊎ (last < n)) numbers
+
+-- a change that came in, and whose number is the next one, may be passed
+abbrev pub Passes : Course → Course → Type 0
+Passes old new =
+    (new ≡ old) ⊎ (Contains old.numbers (old.position + 1) × (new ≡ moved_to old (old.position + 1)))
+
+-- the reply to a merge: the change has this number, which is none that was passed; or all was known; or it is refused,
+-- and not for want of a seat
+abbrev pub IsTaken : ℕ → List ℕ → Brought → Type 0
+IsTaken position reply (broughts.Anew number) =
+    (number_after reply (codes "ok ") ≡ Some number) × (position < number)
+IsTaken position reply (broughts.Known number) = number_after reply (codes "same ") ≡ Some number
+IsTaken position reply broughts.Refused =
+    (starts_with nat_eq reply (codes "err ") ≡ true) × (reply ≢ no_seat)
+
+-- the numbers of what was brought
+abbrev pub numbers_of : Brought → List ℕ
+numbers_of (broughts.Anew number) = number ∷ []
+numbers_of (broughts.Known number) = []
+numbers_of broughts.Refused = []
+
+-- A course before, a line that the server replied, what was asked, and the course after: a pull that returns a group,
+-- in which nothing came in, and which is written,
+abbrev pub Hands : Answering Course
+Hands old line request new = (most : ℕ) × (delta : List ℕ) × (last : ℕ) × (request ≡ pull_most old.position most)
+    × IsGroup old.position (without_return line) last delta × AreOutside old.numbers old.position last
+    × (new ≡ tells old delta last)
+
+-- .. a pull that returns the end,
+abbrev pub IsThrough : Answering Course
+IsThrough old line request new = (most : ℕ) × (request ≡ pull_most old.position most)
+    × TellsEnd (without_return line) old.position × (new ≡ old)
+
+-- .. a merge of what came in,
+abbrev pub Brings : Answering Course
+Brings old line request new = (delta : List ℕ) × (brought : Brought) × (request ≡ merge_text delta)
+    × IsTaken old.position (without_return line) brought × (new ≡ takes old delta (numbers_of brought))
+
+-- .. or a wait for more
+abbrev pub Awaits : Answering Course
+Awaits old line request new = (more : List ℕ) × EndsWait more × (request ≡ wait_text old.position ++ more)
+    × TellsNews old.position (without_return line) × (new ≡ old)
+
+-- RELAYS: one of these, after what may be passed
+abbrev pub Relays : Answering Course
+Relays old line request new = (from : Course) × Passes old from
+    × (Hands from line request new ⊎ IsThrough from line request new ⊎ Brings from line request new
+    ⊎ Awaits from line request new)
+
+-- what a relay works with: its server, the merge lines that come in and have had no reply yet, where they are shown,
+-- and what was written
+pub record RelayView : Type 0 where
+  pub server : PeerView
+  pub to_come : Option (List ℕ)
+  pub contents : Option (List ℕ)
+
+abbrev pub seen : PeerView → Option (List ℕ) → Option (List ℕ) → RelayView
+seen server to_come contents = record { server = server; to_come = to_come; contents = contents }
+
+-- all that was asked, and replied, came to this; what was merged is what came in, and what was told was written
+pub record HasAsked (first last : RelayView) (course : Course) : Type 0 where
+  pub replies : List (List ℕ)
+  pub each : All HasNoFeed replies
+  pub read : Consumes first.server.to_come last.server.to_come (stream_of replies [])
+  pub requests : List ℕ
+  pub run : Run Relays unbegun replies requests course
+  pub asked : Appends first.server.asked last.server.asked requests
+  pub came : Consumes first.to_come last.to_come course.merged
+  pub sent : Appends first.contents last.contents course.told
+
+-- RELAYED: .. and a change that came in may be passed then
+pub record HasRelayed (first last : RelayView) (course : Course) : Type 0 where
+  pub before : Course
+  pub asked : HasAsked first last before
+  pub passes : Passes before course
+
+-- THROUGH: nothing more comes in, and the server has no more
+pub record IsRelayed (first last : RelayView) : Type 0 where
+  pub course : Course
+  pub relayed : HasRelayed first last course
+  pub through : TellsEnd (without_return last.server.line) course.position
+  pub ended : IsAtEnd last.to_come
+
+-- what may be asked next, where this delta has come in
+abbrev pub MayAskNext : Course → List ℕ → List ℕ → Type 0
+MayAskNext course held request =
+    ((most : ℕ) × (request ≡ pull_most course.position most))
+    ⊎ (request ≡ merge_text held)
+    ⊎ ((more : List ℕ) × EndsWait more × (request ≡ wait_text course.position ++ more))
+
+-- what was written of a group up to a number that is due, where the output failed: a beginning; else nothing
+abbrev pub IsCutAt : RelayFault → (ℕ → Type 0) → ℕ → PeerView → Option (List ℕ) → Option (List ℕ) → Type 0
+IsCutAt faults.Output IsDueTo position server before contents = (delta : List ℕ) × (last : ℕ)
+    × IsGroup position (without_return server.line) last delta × IsDueTo last
+    × PutsSome before contents (merge_text delta)
+IsCutAt (faults.Server fault) IsDueTo position server before contents = contents ≡ before
+
+-- HALTED: it relayed up to some reply. Then a beginning of a request was put, and at most one line came, of which no
+-- more was written than a beginning
+pub record IsHalted (fault : RelayFault) (held : List ℕ) (first last : RelayView) : Type 0 where
+  pub middle : RelayView
+  pub course : Course
+  pub relayed : HasRelayed first middle course
+  pub request : List ℕ
+  pub may : MayAskNext course held request
+  pub put : PutsSome middle.server.asked last.server.asked request
+  pub taken : TakesLine middle.server.to_come last.server.to_come
+  pub unsettled : last.to_come ≡ middle.to_come
+  pub cut : IsCutAt fault (AreOutside course.numbers course.position) course.position last.server middle.contents
+      last.contents
+
+-- a device failed, where the fault is that one did
+abbrev pub HasFailed : RelayFault → Type 0 → Type 0 → Type 0
+HasFailed faults.Output server_failed output_failed = output_failed
+HasFailed (faults.Server fault) server_failed output_failed = fault ≡ Refused Device → server_failed
+
+-- a pull of at most so many changes after a position: what it returned was written, up to this number, or there is none
+abbrev pub IsHanded : ℕ → ℕ → PeerView → PeerView → Option (List ℕ) → Option (List ℕ) → Option ℕ → Type 0
+IsHanded position most old new before contents (Some last) = IsReplied (pull_most position most) old new
+    × ((delta : List ℕ) × IsGroup position (without_return new.line) last delta × (last ≤ position + most)
+    × Appends before contents (merge_text delta))
+IsHanded position most old new before contents None = IsReplied (pull_most position most) old new
+    × TellsEnd (without_return new.line) position × (contents ≡ before)
+
+-- .. or it broke off
+pub record IsUnhanded (fault : RelayFault) (position most : ℕ) (old new : PeerView)
+    (before contents : Option (List ℕ)) : Type 0 where
+  pub put : PutsSome old.asked new.asked (pull_most position most)
+  pub taken : TakesLine old.to_come new.to_come
+  pub cut : IsCutAt fault (λ last. last ≤ position + most) position new before contents
+
+-- whatever was relayed before, up to this position, where nothing that came in lies after it and up to the limit
+abbrev pub Onward : ℕ → ℕ → PeerView → Option (List ℕ)
+    → ((first : RelayView) → Option (List ℕ) → Course → Type 0) → Type 0
+Onward position limit server contents Then = (first : RelayView) (to_come : Option (List ℕ)) (course : Course)
+    → HasAsked first (seen server to_come contents) course → course.position ≡ position
+    → AreOutside course.numbers position limit → Then first to_come course
+
+-- .. this was asked further, up to the position
+pub record IsOnward (position : ℕ) (numbers : List ℕ) (first last : RelayView) : Type 0 where
+  pub course : Course
+  pub asked : HasAsked first last course
+  pub here : course.position ≡ position
+  pub same : course.numbers ≡ numbers
+
+-- all that came in was passed
+abbrev pub ArePassed : Course → Type 0
+ArePassed course = All (λ n. n ≤ course.position) course.numbers
+
+-- relayed up to this position
+pub record IsAt (position : ℕ) (first last : RelayView) : Type 0 where
+  pub course : Course
+  pub relayed : HasRelayed first last course
+  pub here : course.position ≡ position
+  pub passed : ArePassed course
