@@ -153,8 +153,8 @@ IsCutAt faults.Output IsDueTo position server before contents = (delta : List �
     × PutsSome before contents (merge_text delta)
 IsCutAt (faults.Server fault) IsDueTo position server before contents = contents ≡ before
 
--- HALTED: it relayed up to some reply. Then a beginning of a request was put, and at most one line came, of which no
--- more was written than a beginning
+-- HALTED: it relayed up to some reply. Then a beginning of a request was put, and at most one line came. At most a
+-- beginning of that was written
 pub record IsHalted (fault : RelayFault) (held : List ℕ) (first last : RelayView) : Type 0 where
   pub middle : RelayView
   pub course : Course
