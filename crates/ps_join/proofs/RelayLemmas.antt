@@ -8,7 +8,8 @@ use Rattle.std.proofs.lemmas.List.Elements.{All-push, Contains-push}
 use Rattle.ps_device.proofs.DeviceLemmas.{Appends-append, Appends-nil}
 use Rattle.ps_join.specs.Joins.{IsUnwaited, IsWaited, merge_text}
 use Rattle.ps_join.specs.Relays.{ArePassed, AreOutside, Awaits, Brings, Course, Hands, HasAsked, HasRelayed, IsAt}
-use Rattle.ps_join.specs.Relays.{IsCutAt, IsHalted, IsHanded, IsOnward, IsTaken, IsThrough, IsUnhanded, MayAskNext, Onward}
+use Rattle.ps_join.specs.Relays.{IsCutAt, IsHalted, IsHanded, IsOnward, IsTaken, IsThrough, IsUnhanded, MayAskNext}
+use Rattle.ps_join.specs.Relays.{Onward}
 use Rattle.ps_join.specs.Relays.{Passes, RelayView, Relays, moved_to, numbers_of, seen, takes, tells, unbegun}
 use Rattle.ps_join.specs.declared.bringing.Brought.{Brought}
 use Rattle.ps_join.specs.declared.fault.RelayFault.{RelayFault}
@@ -197,7 +198,8 @@ module _ (position : ℕ) (numbers : List ℕ) (first : RelayView) (old new : Pe
       (replied_takes (pull_most position most) old new h.0) h.2
 
   -- .. or it broke off
-  pub onward_cut : (fault : RelayFault) (most : ℕ) (held : List ℕ) → IsUnhanded fault position most old new before contents
+  pub onward_cut : (fault : RelayFault) (most : ℕ) (held : List ℕ)
+      → IsUnhanded fault position most old new before contents
       → AreOutside numbers position (position + most) → IsHalted fault held first (seen new to_come contents)
   onward_cut fault most held u outside =
       halted first old new to_come before contents o.course here_relayed fault held

@@ -16,7 +16,7 @@ pub enum Came {
 
 /// Deltas that come in, one after another.
 ///
-/// One that is in hand stays there until it is settled. So it is in hand again after a server was lost.
+/// One that is in hand stays there until it is settled, also where a server is lost.
 pub trait Intake {
     /// The lines that merge what wasn't settled so far, where the intake shows them.
     ghost to_come: { Self → Option (List ℕ) };

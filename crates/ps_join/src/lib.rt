@@ -1,8 +1,8 @@
 //! A join of two peers of the line protocol: each gets what the other has.
 //!
 //! [`join_once`] merges all that one peer has at the other, and then the other way round. [`join`] goes on so with each
-//! change that either of them gets, until one of them ends it. [`relay`] has lines in place of the other peer: it merges
-//! those of an [`Intake`], and writes the changes that didn't come in by it.
+//! change that either of them gets, until one of them ends it. [`relay`] has lines in place of the other peer: those of
+//! an [`Intake`] are merged, and the changes that didn't come in by it are written.
 //!
 //! It knows no sheet, and opens no connection: a peer is that of `ps_peers`. A group of changes travels as the peer
 //! wrote it, by a line `merge`.

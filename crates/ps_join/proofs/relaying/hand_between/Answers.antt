@@ -39,7 +39,8 @@ returns-in-Err-clause-halted g c = λ first to_come course asked here outside he
     (g.O.Sink.contents c.pulls.out) (g.O.Sink.contents c.hand_group.new.out)
     (i.onward first to_come course asked here outside) c.in-Err.fault c.min-most.result held
     c.in-Err.ensures.unhanded
-    (outside_all course.numbers c.args.start (c.pulls.position + c.min-most.result) c.pulls.position c.args.limit outside
+    (outside_all course.numbers c.args.start (c.pulls.position + c.min-most.result) c.pulls.position c.args.limit
+    outside
     i.low (omega (arith, i.high, c.min-most.ensures)))
 
 pub returns-clause-handed : goal.returns-clause-handed
