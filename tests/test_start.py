@@ -25,7 +25,7 @@ COMMANDS = {
     "talk": "asks a server", "squash": "few push lines",
 }
 WITHOUT_NUMBER = ("--keep", "--squash", "--explain", "--strict", "--entries", "--until-now", "--once", "--check",
-                  "--title")
+                  "--lines", "--title")
 WHY_NO_PORT = dict.fromkeys(("serve", "sync", "join", "follow", "talk"), "why a port")
 OPTIONS = {
     "--workers": "threads", "--replica": "of this replica", "--strict": "status 3", "--squash": "half as long",
@@ -33,7 +33,7 @@ OPTIONS = {
     "--entries": "entries", "--port": "listen", "--sessions": "before it ends", "--seats": "to serve at a time",
     "--wait": "wait for a seat", "--idle": "sends nothing", "--until-now": "ends once", "--every": "milliseconds",
     "--title": "title of the page", "--once": "all that the other one had", "--check": "hold the same",
-    "--until": "from the first on",
+    "--until": "from the first on", "--with": "merges at", "--lines": "lines of standard input",
     "--without": "this replica assigned",
     "--to": {"sync": "takes them in", "join": "the other replica", "talk": "is asked"},
     "--from": {"sync": "are pulled", "join": "go to the other one first", "follow": "is followed"},

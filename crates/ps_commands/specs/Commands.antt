@@ -1,5 +1,6 @@
 -- What the commands begin with, and what they write.
-use Rattle.std.specs.Prelude.{◌≡◌, ◌==◌, ◌∷◌, ◌++◌, ℕ, Bool, false, List, [], Option, if◌then◌else◌, codes, decimal}
+use Rattle.std.specs.Prelude.{◌≡◌, ◌⊎◌, ◌==◌, ◌∷◌, ◌++◌, ℕ, zero, suc, Bool, false, List, [], Option, None, Some}
+use Rattle.std.specs.Prelude.{if◌then◌else◌, codes, decimal}
 use Rattle.ps_grid.specs.Rectangle.{Area}
 use Rattle.ps_delta.specs.Deltas.{joined_history}
 use Rattle.ps_shown.specs.Shown.{shown_at}
@@ -8,7 +9,9 @@ use Rattle.ps_csv.specs.Exports.{exported, exported_entries, held_in}
 use Rattle.ps_csv.specs.Faults.{ReaderFails, TableFault, WholeTable}
 use Rattle.ps_csv.specs.Imports.{ImportsTable}
 use Rattle.ps_join.specs.Joins.{IsJoined, IsStopped}
+use Rattle.ps_join.specs.Relays.{IsHalted, IsRelayed, seen}
 use Rattle.ps_join.specs.declared.fault.End.{End}
+use Rattle.ps_join.specs.declared.fault.RelayFault.{RelayFault}
 use Rattle.ps_peers.specs.Peers.{PeerView}
 use Rattle.ps_peers.specs.declared.peer_pull.SyncFault.{SyncFault}
 use Rattle.ps_squash.specs.declared.selection.Selection.{Selection}
@@ -94,3 +97,26 @@ listening_text port = notice (codes "listening ") port
 -- .. and once all sessions have ended, which leave a history of so many deltas
 abbrev pub closed_text : ℕ → List ℕ
 closed_text version = notice (codes "closed ") version
+
+-- a server was relayed to its end, over a connection
+abbrev pub IsThroughWith : Option (List ℕ) → Option (List ℕ) → Type 0
+IsThroughWith before contents = (first : PeerView) × (last : PeerView) × (to_come : Option (List ℕ))
+    × (left : Option (List ℕ)) × IsRelayed (seen first to_come before) (seen last left contents)
+
+-- .. or until it ended early; or nothing was written
+abbrev pub IsTried : Option (List ℕ) → Option (List ℕ) → Type 0
+IsTried before contents = (contents ≡ before)
+    ⊎ ((fault : RelayFault) × (held : List ℕ) × (first : PeerView) × (last : PeerView)
+    × (to_come : Option (List ℕ)) × (left : Option (List ℕ))
+    × IsHalted fault held (seen first to_come before) (seen last left contents))
+
+-- .. so many times, over one connection after another
+abbrev pub AreTried : ℕ → Option (List ℕ) → Option (List ℕ) → Type 0
+AreTried zero before contents = contents ≡ before
+AreTried (suc n) before contents =
+    (middle : Option (List ℕ)) × AreTried n before middle × IsTried middle contents
+
+-- what an attempt came to: no end was lost, or one was
+abbrev pub IsAttempt : {A : Type 0} → Option (List ℕ) → Option (List ℕ) → Option A → Type 0
+IsAttempt before contents None = IsThroughWith before contents
+IsAttempt before contents (Some end) = IsTried before contents

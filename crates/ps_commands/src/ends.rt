@@ -26,7 +26,10 @@ pub(crate) struct Ends {
 }
 
 /// Connects to one port of a join.
-fn open_end<R: Net<Stream = TcpStream>>(rt: &R, port: u16) -> Result<Connection, PortFault>
+pub(crate) fn open_end<R: Net<Stream = TcpStream>>(
+    rt: &R,
+    port: u16,
+) -> Result<Connection, PortFault>
     ensures opened { IfOk result (λ connection. connection.port ≡ port) }
     ensures unreached { IfErr result (λ fault. fault.port ≡ port) }
 {
@@ -106,17 +109,11 @@ pub(crate) fn unreached_end(fault: PortFault) -> LostEnd
     }
 }
 
-/// Returns the end at which a join ended. Out of memory no end is lost, and it is `Memory`.
-pub(crate) fn lost_end(ends: &Ends, fault: JoinFault) -> Result<LostEnd, ProgramFault>
-    ensures from { fault.end ≡ End.From → IfOk result (λ lost. lost.port ≡ ends.now.from.port) }
-    ensures to { fault.end ≡ End.To → IfOk result (λ lost. lost.port ≡ ends.now.to.port) }
+/// Returns the end at this port, where an exchange ended so. Out of memory no end is lost, and it is `Memory`.
+pub(crate) fn lost_at(port: u16, fault: SyncFault) -> Result<LostEnd, ProgramFault>
+    ensures port { IfOk result (λ lost. lost.port ≡ port) }
     ensures memory { IfErr result (λ f. f ≡ Refused Memory) }
 {
-    let JoinFault { end, fault } = fault;
-    let port = match end {
-        End::From => ends.from.port,
-        End::To => ends.to.port,
-    };
     match fault {
         SyncFault::Refused(Refusal::Memory) => Err(ProgramFault::Refused(Refusal::Memory)),
         SyncFault::Refused(Refusal::Device) | SyncFault::Closed => Ok(LostEnd {
@@ -132,4 +129,18 @@ pub(crate) fn lost_end(ends: &Ends, fault: JoinFault) -> Result<LostEnd, Program
             loss: Loss::Refused(ProgramFault::PeerRefused(reply)),
         }),
     }
+}
+
+/// Returns the end at which a join ended. Out of memory no end is lost, and it is `Memory`.
+pub(crate) fn lost_end(ends: &Ends, fault: JoinFault) -> Result<LostEnd, ProgramFault>
+    ensures from { fault.end ≡ End.From → IfOk result (λ lost. lost.port ≡ ends.now.from.port) }
+    ensures to { fault.end ≡ End.To → IfOk result (λ lost. lost.port ≡ ends.now.to.port) }
+    ensures memory { IfErr result (λ f. f ≡ Refused Memory) }
+{
+    let JoinFault { end, fault } = fault;
+    let port = match end {
+        End::From => ends.from.port,
+        End::To => ends.to.port,
+    };
+    lost_at(port, fault)
 }

@@ -18,7 +18,7 @@ use thiserror::Error;
 
 /// A text of another program, with each control character as `\u{..}`: so it can't command the terminal that shows it.
 #[derive(Clone, Copy)]
-struct Spelled<'a>(&'a str);
+pub(crate) struct Spelled<'a>(pub &'a str);
 
 impl fmt::Display for Spelled<'_> {
     fn fmt<W: fmt::Write>(&self, f: &mut fmt::Formatter<W>) -> fmt::Result {

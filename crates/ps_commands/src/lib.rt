@@ -13,6 +13,7 @@
 //! - [`serve_kept`]: at its end the journal has all of the sheet.
 //! - [`sync_on`], [`follow_on`] and [`talk_on`]: as `sync`, `follow` and `ask_lines` of `ps_peers`, at ports.
 //! - [`join_once_on`] and [`join_on`]: as `join_once` and `join` of `ps_join`, at ports.
+//! - [`relay_on`]: as `relay` of `ps_join`, at a port.
 //! - [`check_on`]: as `compare` of `ps_step`, at ports. What was written says which cells differ.
 //! - [`squash_on`] and [`squash_part_on`]: what was written is what `ps_squash` defines for the lines.
 //!
@@ -35,14 +36,17 @@ mod ends;
 mod explain;
 mod fault;
 mod follow;
+mod inlet;
 mod join;
 mod kept;
 mod listening;
 mod lookout;
 mod notice;
 mod peers;
+mod poller;
 mod port;
 mod progress;
+mod relay;
 mod run;
 mod squash;
 mod sync;
@@ -61,6 +65,7 @@ pub use kept::{
 };
 pub use listening::{serve, serve_kept};
 pub use port::{PageAddress, PortFault, PortTrouble, port_fault};
+pub use relay::{Input, relay_on};
 pub use run::{answer_kept, answer_lines, open_sheet};
 pub use squash::{SquashedFile, squash_kept, squash_on, squash_part_on, tell_left_out};
 pub use sync::sync_on;

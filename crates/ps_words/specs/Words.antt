@@ -13,7 +13,8 @@ use Rattle.ps_words.specs.declared.options.TheConstants.{LONGEST_IDLE, LONGEST_P
 use Rattle.ps_words.specs.declared.options.TheConstants.{MOST_CHANGES, MOST_SESSIONS}
 use Rattle.ps_words.specs.declared.arguments.TheConstants.{LAST_PORT}
 use Rattle.ps_words.specs.declared.options.Options.{Options}
-use Rattle.ps_words.specs.declared.options.Options.TheVariants.{Follow, Join, Run, Serve, Squash, Sync, Table, Talk}
+use Rattle.ps_words.specs.declared.options.Options.TheVariants.{Follow, Join, Relay, Run, Serve, Squash, Sync}
+use Rattle.ps_words.specs.declared.options.Options.TheVariants.{Table, Talk}
 
 -- an option with a number from least to most, which may be left out ..
 abbrev pub ranged_option : Text → ℕ → ℕ → Rule
@@ -74,8 +75,9 @@ sync_app = with_rule (with_rule (with_rule (new_app (codes "sync")) (needed_opti
     (needed_option (codes "to") LAST_PORT)) (flag_option (codes "explain"))
 
 abbrev pub join_app : App
-join_app = with_rule (with_rule (with_rule (with_rule (with_rule (new_app (codes "join"))
-    (needed_option (codes "from") LAST_PORT)) (needed_option (codes "to") LAST_PORT))
+join_app = with_rule (with_rule (with_rule (with_rule (with_rule (with_rule (with_rule (new_app (codes "join"))
+    (ranged_option (codes "from") 1 LAST_PORT)) (ranged_option (codes "to") 1 LAST_PORT))
+    (ranged_option (codes "with") 1 LAST_PORT)) (flag_option (codes "lines")))
     (flag_option (codes "once"))) (flag_option (codes "check"))) (flag_option (codes "explain"))
 
 abbrev pub follow_app : App
@@ -127,6 +129,7 @@ name_of (Table o) = codes "table"
 name_of (Serve o) = codes "serve"
 name_of (Sync o) = codes "sync"
 name_of (Join o) = codes "join"
+name_of (Relay o) = codes "join"
 name_of (Follow o) = codes "follow"
 name_of (Talk o) = codes "talk"
 name_of (Squash o) = codes "squash"
@@ -150,6 +153,8 @@ GivesNumbers rows (Sync o) = GivesNumber rows (codes "from") o.from × GivesNumb
 GivesNumbers rows (Join o) = GivesNumber rows (codes "from") o.from × GivesNumber rows (codes "to") o.to
     × GivesFlag rows (codes "once") o.once × GivesFlag rows (codes "check") o.check
     × GivesFlag rows (codes "explain") o.explain
+GivesNumbers rows (Relay o) = GivesNumber rows (codes "with") o.server × GivesFlag rows (codes "lines") true
+    × GivesFlag rows (codes "once") o.once × GivesFlag rows (codes "explain") o.explain
 GivesNumbers rows (Follow o) = GivesNumber rows (codes "from") o.from × GivesFlag rows (codes "until-now") o.until_now
     × GivesNumber rows (codes "every") o.every × GivesFlag rows (codes "explain") o.explain
 GivesNumbers rows (Talk o) = GivesNumber rows (codes "to") o.to × GivesFlag rows (codes "explain") o.explain

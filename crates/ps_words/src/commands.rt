@@ -20,11 +20,11 @@ use crate::arguments::{
 };
 use crate::help::{
     CHECK_HELP, ENTRIES_HELP, EVERY_HELP, EXPLAIN_HELP, FOLLOW_HELP, FOLLOWED_HELP, FROM_HELP,
-    IDLE_HELP, JOIN_HELP, JOINED_FIRST_HELP, JOINED_SECOND_HELP, KEEP_HELP, ONCE_HELP,
-    PORT_EXPLAIN_HELP, PORT_HELP, RUN_HELP, SEATS_HELP, SERVE_HELP, SESSIONS_HELP, SHEET_HELP,
-    SQUASH_HELP, SQUASHED_HELP, STRICT_HELP, SYNC_HELP, TABLE_HELP, TALK_EXPLAIN_HELP, TALK_HELP,
-    TALKED_HELP, TITLE_HELP, TO_HELP, UNTIL_HELP, UNTIL_NOW_HELP, WAIT_HELP, WITHOUT_HELP,
-    WORKERS_HELP,
+    IDLE_HELP, JOIN_HELP, JOINED_FIRST_HELP, JOINED_SECOND_HELP, KEEP_HELP, LINES_HELP, ONCE_HELP,
+    PORT_EXPLAIN_HELP, PORT_HELP, RELAYED_HELP, RUN_HELP, SEATS_HELP, SERVE_HELP, SESSIONS_HELP,
+    SHEET_HELP, SQUASH_HELP, SQUASHED_HELP, STRICT_HELP, SYNC_HELP, TABLE_HELP, TALK_EXPLAIN_HELP,
+    TALK_HELP, TALKED_HELP, TITLE_HELP, TO_HELP, UNTIL_HELP, UNTIL_NOW_HELP, WAIT_HELP,
+    WITHOUT_HELP, WORKERS_HELP,
 };
 use crate::options::{LONGEST_IDLE, LONGEST_PAUSE, LONGEST_WAIT, MOST_CHANGES, MOST_SESSIONS};
 use clap::Command;
@@ -107,10 +107,14 @@ pub(crate) fn join_command<'a>(alloc: Global) -> Result<Command<'a>, AllocError>
     ensures local { IfOk result (λ command. (fields_of command).has_globals ≡ false) }
 {
     let about = "keeps two replicas at the same changes";
-    let from = needed_option(alloc, "from", LAST_PORT, JOINED_FIRST_HELP);
+    let from = ranged_option(alloc, "from", 1, LAST_PORT, JOINED_FIRST_HELP);
     let command = with_option(new_command(alloc, "join", about, JOIN_HELP), from)?;
-    let to = needed_option(alloc, "to", LAST_PORT, JOINED_SECOND_HELP);
+    let to = ranged_option(alloc, "to", 1, LAST_PORT, JOINED_SECOND_HELP);
     let command = with_option(command, to)?;
+    let server = ranged_option(alloc, "with", 1, LAST_PORT, RELAYED_HELP);
+    let command = with_option(command, server)?;
+    let lines = flag_option(alloc, "lines", LINES_HELP);
+    let command = with_option(command, lines)?;
     let once = flag_option(alloc, "once", ONCE_HELP);
     let command = with_option(command, once)?;
     let check = flag_option(alloc, "check", CHECK_HELP);

@@ -57,6 +57,14 @@ pub const JOINED_FIRST_HELP: &str =
 /// What `--to` of `join` means.
 pub const JOINED_SECOND_HELP: &str = "the port of the other replica, 1 to 65535";
 
+/// What `--with` means.
+pub const RELAYED_HELP: &str =
+    "the port of the one replica that --lines merges at and writes of, 1 to 65535";
+
+/// What `--lines` means.
+pub const LINES_HELP: &str =
+    "merges the lines of standard input, and writes what others change as such lines";
+
 /// What `--once` means.
 pub const ONCE_HELP: &str = "ends once each replica has all that the other one had";
 
@@ -279,7 +287,17 @@ The second one writes
 
 and the third one then, say,
 
-  in step at 4 and 2";
+  in step at 4 and 2
+
+With --with and --lines there is one replica, and lines in place of the other one.
+Each line `merge ..` of standard input is merged. Each change that didn't come in so
+is written as such a line on standard output, at once; first all that the replica
+has. A line that is refused is told with its number on standard error, and passed
+over. At the end of the input it ends once all is merged and written, with status 0.
+A connection that ends is opened again, and all is written again; with --once it
+ends the command. So one process is enough for a broker's topic:
+
+  mosquitto_sub -t plan | sheet join --with 7001 --lines | mosquitto_pub -l -t plan";
 
 /// What stands below the options of `sheet follow --help`.
 pub const FOLLOW_HELP: &str = "\

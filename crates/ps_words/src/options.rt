@@ -117,6 +117,18 @@ pub struct JoinOptions {
     ghost one_way: { once ≡ true → check ≡ false },
 }
 
+/// What `sheet join --with --lines` is asked for.
+#[derive(Clone, Copy, PartialEq, Eq)]
+pub struct RelayOptions {
+    /// The port of the replica, 1 or more.
+    pub server: u16,
+    /// Whether a lost connection ends it.
+    pub once: bool,
+    /// Whether standard error gets the reason if the port can't be used.
+    pub explain: bool,
+    ghost server_in_range: { 1 ≤ server },
+}
+
 /// What `sheet follow` is asked for.
 #[derive(Clone, Copy, PartialEq, Eq)]
 pub struct FollowOptions {
@@ -169,6 +181,8 @@ pub enum Options<'a> {
     Sync(SyncOptions),
     /// Merges the changes of each of two replicas at the other, or compares them.
     Join(JoinOptions),
+    /// Merges the lines of standard input at a replica, and writes the changes of others as such lines.
+    Relay(RelayOptions),
     /// Writes all changes of a replica as change lines.
     Follow(FollowOptions),
     /// Asks a server each line of standard input.

@@ -7,8 +7,8 @@ ghost use Rattle.ps_words.specs.Words.{asks_for_page, name_of, sheet_app};
 use crate::commands::{join_command, sheet_command, squash_command};
 use crate::options::{
     FollowOptions, JoinOptions, LONGEST_IDLE, LONGEST_PAUSE, LONGEST_WAIT, MOST_CHANGES,
-    MOST_SESSIONS, Options, RunOptions, ServeOptions, SheetOptions, SquashOptions, SyncOptions,
-    TableOptions, TalkOptions,
+    MOST_SESSIONS, Options, RelayOptions, RunOptions, ServeOptions, SheetOptions, SquashOptions,
+    SyncOptions, TableOptions, TalkOptions,
 };
 use clap::error::ErrorKind;
 use clap::{ArgMatches, Error};
@@ -204,17 +204,88 @@ fn join_options<'a>(matches: &ArgMatches<'a>) -> Option<Options<'a>>
     }))
 }
 
-/// Whether the options of `join` ask it both to merge and to compare.
-fn merges_and_checks(matches: &ArgMatches<'_>) -> bool {
-    matches.get_flag("once") && matches.get_flag("check")
+/// The port of `join --with`, and its flags; none without `--lines`.
+fn relay_options<'a>(matches: &ArgMatches<'a>) -> Option<Options<'a>>
+    ensures { IfSome result (λ options. (name_of options ≡ codes "join")
+        × GivesNumbers (rows_of (found_of matches.now)) options) }
+{
+    let server = port_of(matches, "with")?;
+    let lines = flag_of(matches, "lines");
+    if !lines {
+        return None;
+    }
+    Some(Options::Relay(RelayOptions {
+        server,
+        once: flag_of(matches, "once"),
+        explain: flag_of(matches, "explain"),
+    }))
 }
 
-/// The error of a join that would both merge and compare.
-fn merging_error(alloc: Global) -> Result<Error, AllocError> {
-    join_command(alloc)?.error(
-        ErrorKind::ArgumentConflict,
-        "the argument '--once' cannot be used with '--check', which merges nothing",
-    )
+/// The options of `join`, over two ports or over one and lines.
+fn joining_options<'a>(matches: &ArgMatches<'a>) -> Option<Options<'a>>
+    ensures { IfSome result (λ options. (name_of options ≡ codes "join")
+        × GivesNumbers (rows_of (found_of matches.now)) options) }
+{
+    if matches.contains_id("with") {
+        relay_options(matches)
+    } else {
+        join_options(matches)
+    }
+}
+
+/// What an option of `join` that is given excludes, of those that are given.
+fn excluded(matches: &ArgMatches<'_>) -> Option<&'static str> {
+    let checks = matches.get_flag("check");
+    if checks && matches.get_flag("once") {
+        return Some("the argument '--once' cannot be used with '--check', which merges nothing");
+    }
+    if !matches.contains_id("with") {
+        return None;
+    }
+    if matches.contains_id("from") || matches.contains_id("to") {
+        return Some(
+            "the argument '--with <with>' cannot be used with '--from <from>' and '--to <to>'",
+        );
+    }
+    if checks {
+        return Some("the argument '--with <with>' cannot be used with '--check'");
+    }
+    None
+}
+
+/// What `join` lacks besides the options that are given; nothing if it lacks none.
+fn missing(matches: &ArgMatches<'_>) -> &'static str {
+    let lines = matches.get_flag("lines");
+    if matches.contains_id("with") {
+        return if lines { "" } else { "--lines" };
+    }
+    if lines {
+        return "--with <with>";
+    }
+    match (matches.contains_id("from"), matches.contains_id("to")) {
+        (true, true) => "",
+        (true, false) => "--to <to>",
+        (false, true) => "--from <from>",
+        (false, false) => "--from <from> --to <to>",
+    }
+}
+
+/// Whether the options of `join` can't be given together, or one is missing.
+fn is_troubled(matches: &ArgMatches<'_>) -> bool {
+    excluded(matches).is_some() || !missing(matches).is_empty()
+}
+
+/// The error of a join whose options can't be given together, or where one is missing.
+fn trouble_error(alloc: Global, matches: &ArgMatches<'_>) -> Result<Error, AllocError> {
+    let mut command = join_command(alloc)?;
+    if let Some(message) = excluded(matches) {
+        return command.error(ErrorKind::ArgumentConflict, message);
+    }
+    let missing = missing(matches);
+    let message = format!(in alloc;
+        "the following required arguments were not provided: {missing}"
+    )?;
+    command.error(ErrorKind::MissingRequiredArgument, message.as_str())
 }
 
 /// The port and the pause of `follow`, and its flags.
@@ -285,7 +356,7 @@ fn options_of<'a>(name: &str, matches: &ArgMatches<'a>) -> Option<Options<'a>>
         "table" => table_options(matches),
         "serve" => serve_options(matches),
         "sync" => sync_options(matches),
-        "join" => join_options(matches),
+        "join" => joining_options(matches),
         "follow" => follow_options(matches),
         "talk" => talk_options(matches),
         "squash" => squash_options(matches),
@@ -309,8 +380,8 @@ pub fn read_words<'a>(alloc: Global, words: &'a [String]) -> Result<Options<'a>,
     if name == "squash" && squashes_in_part(found) {
         return Err(in_part_error(alloc)?);
     }
-    if name == "join" && merges_and_checks(found) {
-        return Err(merging_error(alloc)?);
+    if name == "join" && is_troubled(found) {
+        return Err(trouble_error(alloc, found)?);
     }
     let Some(options) = options_of(name, found) else {
         return Err(AllocError.into());

@@ -33,10 +33,10 @@ ghost use Rattle.ps_grid.specs.Blanks.{IsBlankOf};
 use clap::Error;
 use clap::error::ErrorKind;
 use ps_commands::{
-    KeptName, KeptObserver, Observer, ProgramFault, answer_kept, answer_lines, check_on, follow_on,
-    join_on, join_once_on, leave_unfreed, lost_file, open_kept_sheet, port_fault, serve,
-    serve_kept, squash_kept, squash_on, squash_part_on, status_of, sync_on, table_on, talk_on,
-    tell_left_out, tell_opened,
+    Input, KeptName, KeptObserver, Observer, ProgramFault, answer_kept, answer_lines, check_on,
+    follow_on, join_on, join_once_on, leave_unfreed, lost_file, open_kept_sheet, port_fault,
+    relay_on, serve, serve_kept, squash_kept, squash_on, squash_part_on, status_of, sync_on,
+    table_on, talk_on, tell_left_out, tell_opened,
 };
 use ps_device::{ConsoleOutput, Reading, Sink, Writing};
 use ps_eval::Meter;
@@ -234,6 +234,19 @@ fn on_standard<
             join_once_on(threads, rt.alloc(), options, &mut sink)
         }
         Options::Join(options) => Err(join_on(threads, rt.alloc(), options, rt.stderr())),
+        Options::Relay(options) => {
+            let source = Reading::<_, I>::new(rt.reader(), counts.input);
+            let file = rt.stdin().as_raw_fd();
+            let mut sink = console::<O>(rt, counts.output)?;
+            relay_on(
+                threads,
+                rt.alloc(),
+                options,
+                Input { source, file },
+                &mut sink,
+                rt.stderr(),
+            )
+        }
         Options::Follow(options) => {
             let mut sink = console::<O>(rt, counts.output)?;
             follow_on(threads, rt.alloc(), options, &mut sink)
