@@ -11,7 +11,7 @@ _sheet() {
         table) words='--workers --entries --explain -h --help' ;;
         serve) words='--port --sessions --seats --wait --idle --explain --keep --title --workers --replica --squash -h --help' ;;
         sync) words='--from --to --explain -h --help' ;;
-        join) words='--from --to --once --check --explain -h --help' ;;
+        join) words='--from --to --with --lines --once --check --explain -h --help' ;;
         follow) words='--from --until-now --every --explain -h --help' ;;
         talk) words='--to --explain -h --help' ;;
         squash) words='--keep --until --without -h --help' ;;
