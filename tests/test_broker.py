@@ -155,6 +155,24 @@ class Mqtt(BrokerTest):
         self.assert_in_step()
 
 
+    def test_what_came_in_is_not_published_again(self):
+        published = self.place / "published"
+        with open(published, "wb") as out:
+            heard = subprocess.Popen(["mosquitto_sub", "-t", "plan", "-q", "1"], env=with_these(self.place), stdout=out)
+        self.open.callback(heard.wait, LIMIT)
+        self.open.callback(heard.kill)
+        for _ in range(4):
+            self.machine(BLOCKS[1])
+        # (one more than those of the machines listens)
+        self.assertTrue(comes_to(lambda: self.log.read_text().count("Sending SUBACK") >= 9), self.log.read_text())
+        for _ in range(10):
+            for machine in self.machines:
+                self.assertTrue(machine.edit())
+        self.assert_in_step()
+        changes = 3 * sum(machine.count for machine in self.machines)
+        self.assertLessEqual(len(published.read_bytes().splitlines()), 1.1 * changes)
+
+
 class Redis(BrokerTest):
     programs = ("redis-cli",)
     broker = ("redis-server", "--port", "PORT", "--bind", HERE, "--save", "", "--appendonly", "no")
