@@ -28,16 +28,12 @@ pub trait Intake {
     ghost holds: { Self → Bool };
 
     /// Takes the next delta in hand, if none is in hand, and returns what is in hand then. It doesn't wait.
-    ///
-    /// Cost: constant.
     fn next(&mut self) -> Came
         ensures same { to_come self.new ≡ to_come self.old }
         ensures held { result ≡ Came.Delta → holds self.new ≡ true }
         ensures ended { result ≡ Came.Ended → IsAtEnd (to_come self.new) };
 
     /// Returns the line of the delta in hand, without a line feed.
-    ///
-    /// Cost: constant.
     fn delta(&self) -> &[u8]
         ensures { result.now ≡ held self.now };
 
