@@ -170,6 +170,9 @@ class Monkey:
         self.select(page, [(cell[0], cell[0]), (cell[1], cell[1])])
         for _ in range(self.chance.randrange(1, 4)):
             text, end = self.chance.choice(TEXTS), self.chance.choice(ENDS)
+            if self.model.held.get(cell) == "@tally":
+                # (at a counter these keys count)
+                text = text.lstrip("+-")
             self.told.append(f"{name_of(cell)} {text} {end}")
             page.type(text)
             page.key(end)
