@@ -106,8 +106,8 @@ class Talk:
     def break_off(self, is_reset):
         """Closes the connection or breaks it off, whatever was answered."""
         self.is_open, self.is_broken_off = False, True
-        if is_reset and not self.lines and not self.begun:
-            # (a connection that is broken off before its first byte is no session)
+        if is_reset and not self.lines and not self.begun[:1].islower():
+            # (a connection that is broken off while it may be a request is no session)
             self.send(b"\n")
         if self.begun and not is_reset:
             # (the end of the input ends a line, too)
