@@ -1,11 +1,18 @@
 """How mutants are read and applied, and how those that are not refused are told."""
+import sys
 import unittest
 from pathlib import Path
 from tempfile import TemporaryDirectory
+from unittest import mock
 
 import edits
 import wrong
 from edits import Change, Edit, Unusable
+from program import TOP
+
+sys.path.insert(0, str(TOP / "release"))
+import earlier
+import tools
 
 BODY = "function: list::first\nfile: src/list.rt\nold: one\nnew: two\nold: two three\nnew: \n"
 READ = Edit("body", "list::first", (Change("src/list.rt", "one", "two"), Change("src/list.rt", "two three", "")))
@@ -89,3 +96,66 @@ class Refused(unittest.TestCase):
     def test_a_check_without_a_verdict_refuses_nothing(self):
         for status in (0, 2, 3, -9):
             self.assertFalse(self.is_refused("not proved", status))
+
+
+class Earlier(unittest.TestCase):
+    """A mutant that an earlier run had refused is tried again once something changes that its refusal rests on."""
+
+    def setUp(self):
+        folder = TemporaryDirectory(prefix="sheet-test-")
+        self.addCleanup(folder.cleanup)
+        self.top = Path(folder.name)
+        (self.top / "crates.txt").write_text("low:\naside:\nhigh: low itoa\n")
+        for name in ("low", "aside", "high"):
+            (self.top / "crates" / name / "src").mkdir(parents=True)
+            (self.top / "crates" / name / "src/lib.rt").write_text(f"{name} one\n")
+        self.mutants = [self.top / f"{name}.edit" for name in ("first", "second")]
+        for mutant in self.mutants:
+            mutant.write_text(f"function: {mutant.stem}\nfile: src/lib.rt\nold: one\nnew: two\n")
+        self.identity = "kit-1"
+
+    def refusals(self):
+        """What is stored, as a new run reads it."""
+        with mock.patch.object(tools, "identity", lambda kit: self.identity):
+            return earlier.Refusals(self.top, None, self.top / "stored")
+
+    def tried(self, faults):
+        """Tries the mutants of the upper crate, where these aren't refused. Returns the counts, and what was tried."""
+        given = []
+
+        def of_crate(top, kit, name, room):
+            return mock.Mock(faults=lambda bodies: given.extend(it.stem for it in bodies) or faults)
+
+        with mock.patch.object(wrong, "Crate", of_crate), mock.patch.object(wrong.sys, "stdout"):
+            return wrong.tried(self.top, None, self.refusals(), "high", self.mutants), given
+
+    def test_one_that_was_refused_is_not_tried_again(self):
+        self.assertEqual(self.tried({"second": "is still proved"}), ((1, 1), ["first", "second"]))
+        self.assertEqual(self.tried({"second": "is still proved"}), ((1, 1), ["second"]))
+        self.assertEqual(self.tried({}), ((2, 0), ["second"]))
+        self.assertEqual(self.tried({}), ((2, 0), []))
+
+    def test_it_is_after_each_change_that_it_rests_on(self):
+        def write(path, text):
+            (self.top / path).parent.mkdir(exist_ok=True)
+            (self.top / path).write_text(text)
+
+        changes = (
+            lambda: write("crates/high/src/lib.rt", "high one two\n"),
+            lambda: write("crates/high/proofs/Lib.antt", ""),
+            lambda: write("crates/low/src/lib.rt", "low two\n"),
+            lambda: write("crates.txt", "low: itoa\naside:\nhigh: low itoa\n"),
+            lambda: setattr(self, "identity", "kit-2"),
+        )
+        for change in changes:
+            self.assertEqual(self.tried({})[0], (2, 0))
+            self.assertEqual(self.tried({})[1], [])
+            change()
+            self.assertEqual(self.tried({})[1], ["first", "second"])
+        write("first.edit", "function: first\nfile: src/lib.rt\nold: one\nnew: three\n")
+        self.assertEqual(self.tried({})[1], ["first"])
+
+    def test_it_is_not_after_another_change(self):
+        self.assertEqual(self.tried({})[0], (2, 0))
+        (self.top / "crates/aside/src/lib.rt").write_text("aside two\n")
+        self.assertEqual(self.tried({})[1], [])

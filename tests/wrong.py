@@ -2,6 +2,7 @@
 
 Those of a crate that change different functions are tried at once, in a copy of the crate, by checks of these functions
 alone; what such a check doesn't refuse is tried once more by itself. What a crate's checks prove is kept between them.
+What an earlier run on this machine had refused, over the same files, `./test` doesn't try again (`earlier.py`).
 """
 import os
 import re
@@ -20,6 +21,7 @@ from program import TOP
 
 sys.path.insert(0, str(TOP / "release"))
 import crates
+import earlier
 import libraries
 import tools
 from tools import Fault
@@ -123,13 +125,21 @@ class Crate:
         return found
 
 
-def tried(top, kit, name, bodies):
-    """Tries these edits of a crate, and shows what each came to. Returns how many were refused, and how many weren't."""
-    with tempfile.TemporaryDirectory(prefix="sheet-wrong-") as room:
-        faults = Crate(top, kit, name, Path(room)).faults(bodies)
-    said = [f"mutant {name}/{it.stem}: {faults.get(it.stem, 'refused')}\n" for it in bodies]
+def tried(top, kit, refusals, name, bodies):
+    """Tries these edits of a crate, but for those whose refusal is stored, and shows what each came to. Returns how many
+    were refused, and how many weren't."""
+    stored = {it: refusals.file(name, it) for it in bodies}
+    left = [it for it in bodies if not stored[it].is_file()]
+    faults = {}
+    if left:
+        with tempfile.TemporaryDirectory(prefix="sheet-wrong-") as room:
+            faults = Crate(top, kit, name, Path(room)).faults(left)
+    for file in left:
+        if file.stem not in faults:
+            refusals.add(stored[file])
+    ends = {it: faults.get(it.stem, "refused") if it in left else "refused by an earlier run" for it in bodies}
     # written at once, since crates are tried side by side
-    sys.stdout.write("".join(said))
+    sys.stdout.write("".join(f"mutant {name}/{it.stem}: {end}\n" for it, end in ends.items()))
     sys.stdout.flush()
     return len(bodies) - len(faults), len(faults)
 
@@ -189,7 +199,7 @@ class Trials:
         """Tries the mutants of one crate after another. Returns how many were refused, and how many weren't."""
         refused, failed = 0, 0
         while (name := self.turns.take(is_beside)) is not None:
-            counts = tried(self.top, kit, name, self.chosen[name])
+            counts = tried(self.top, kit, self.refusals, name, self.chosen[name])
             refused, failed = refused + counts[0], failed + counts[1]
         return refused, failed
 
@@ -197,6 +207,7 @@ class Trials:
         """Tries all of them, in one lane beside the gate and in as many as there are processors after it. Returns how
         many were refused, and how many weren't."""
         kit = tools.folder()
+        self.refusals = earlier.Refusals(self.top, kit, earlier.place())
         lanes = max(1, min(len(os.sched_getaffinity(0)), libraries.free_memory() // MEMORY))
         with ThreadPoolExecutor(lanes) as pool:
             counts = list(pool.map(lambda number: self.lane(kit, number == 0), range(lanes)))
