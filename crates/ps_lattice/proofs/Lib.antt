@@ -9,6 +9,7 @@ pub mod TallyLemmas
 pub mod ChoiceLemmas
 pub mod Bits
 pub mod Stretches
+pub mod LastLemmas
 pub mod NewsLemmas
 pub mod NewsWordLemmas
 pub mod WordLemmas

@@ -17,13 +17,13 @@ use Rattle.ps_lattice.proofs.ChoiceLemmas.{live_is}
 use Rattle.ps_lattice.proofs.Bits.{any_more, or_nothing, or_something}
 use Rattle.ps_lattice.proofs.Places.{sorted_far}
 
-upto_by : (a b : ℕ) (r s : Ordering) → r ≡ nat_cmp a b → ordering_then r s ≡ Less → a ≤ b
+pub upto_by : (a b : ℕ) (r s : Ordering) → r ≡ nat_cmp a b → ordering_then r s ≡ Less → a ≤ b
 upto_by a b Less s is h = let lt : a < b = ranked a b Less is in omega arith
 upto_by a b Equal s is h = let same : a ≡ b = ranked a b Equal is in omega arith
 upto_by a b Greater s is h = cc
 
 -- the options rise along the list
-options_rise : (es : List (Pair × Bool)) → map.is_sorted pair_cmp es ≡ true → (i j : ℕ) (d : Pair × Bool) → i ≤ j
+pub options_rise : (es : List (Pair × Bool)) → map.is_sorted pair_cmp es ≡ true → (i j : ℕ) (d : Pair × Bool) → i ≤ j
     → j < length es → (get_or es i d).0.option ≤ (get_or es j d).0.option
 options_rise es h i j d le within = elim (cases_lt i j) [
   | inl lt ↦ upto_by (get_or es i d).0.option (get_or es j d).0.option

@@ -99,6 +99,10 @@ impl Join for bool {
     }
 }
 
+/// How many entries are copied at once: 3 KB of pairs. The C library has another way for 4 KB and more, which is slower
+/// where all lies in the cache.
+const COPIED: usize = 512;
+
 impl Merge for bool {
     fn joined_with(&self, _alloc: Global, other: &bool) -> Result<bool, Refusal> {
         Ok(*self || *other)
@@ -109,7 +113,12 @@ impl Merge for bool {
         list: &mut Vec<(K, bool)>,
         entries: &[(K, bool)],
     ) -> Result<(), Refusal> {
-        Ok(list.extend_from_slice(entries)?)
+        let mut from = 0;
+        while entries.len() - from > COPIED {
+            list.extend_from_slice(&entries[from..from + COPIED])?;
+            from += COPIED;
+        }
+        Ok(list.extend_from_slice(&entries[from..])?)
     }
 }
 
@@ -200,7 +209,7 @@ impl Choice {
 
     /// Returns the options that are in, as bits: bit k for option k.
     ///
-    /// Cost: for each option its removed pairs before the first one that isn't, and a search for the next option.
+    /// Cost: linear in the pairs; most of an option's are passed over 16 at a time.
     pub fn options(&self) -> u64
         ensures { (k : ℕ) → k < OPTIONS → (IsBitSet result k ↔ IsTrue (is_chosen self.now k)) }
     {
@@ -289,7 +298,7 @@ impl Choice {
         ensures value { result ≡ last_sequence self.now replica }
         ensures in_range { result ≤ SEQUENCES }
     {
-        last_of(self.parts(), replica)
+        last_by_blocks(self.parts(), replica)
     }
 }
 
@@ -315,6 +324,9 @@ fn options_of(pairs: &[(Pair, bool)]) -> u64
     options
 }
 
+/// How many pairs are passed over at once where those at both ends tell of all.
+const PASSED: usize = 16;
+
 /// The place after the last pair that has the option of the pair at `from`.
 #[tactic(auto, using(crate::proofs::Stretches::stretch_of_one))]
 fn end_of_option(pairs: &[(Pair, bool)], from: usize) -> usize
@@ -322,34 +334,20 @@ fn end_of_option(pairs: &[(Pair, bool)], from: usize) -> usize
     requires within { from < length pairs.now }
     ensures { IsStretch pairs.now from result }
 {
-    let mut end = from + 1;
-    // the steps double until one is too wide, and then they halve
-    let mut step = 1;
-    let mut next = end_after(pairs, from, end, step);
-    while next > end {
-        end = next;
-        step = step.saturating_mul(2);
-        next = end_after(pairs, from, end, step);
-    }
-    while step > 1 {
-        step /= 2;
-        end = end_after(pairs, from, end, step);
-    }
-    end
+    let end = end_by(pairs, from, from + 1, PASSED);
+    end_by(pairs, from, end, 1)
 }
 
-/// `end` moved on by `step` pairs if these have the option of the pair at `from`; else `end`.
-fn end_after(pairs: &[(Pair, bool)], from: usize, end: usize, step: usize) -> usize
+/// `end` moved on by `step` pairs as long as these have the option of the pair at `from`.
+fn end_by(pairs: &[(Pair, bool)], from: usize, end: usize, step: usize) -> usize
     requires ascending { IsTrue (map.is_sorted pair_cmp pairs.now) }
     requires so_far { IsStretch pairs.now from end }
     requires some { 1 ≤ step }
     ensures { IsStretch pairs.now from result }
 {
-    if step <= pairs.len() - end {
-        let last = end + (step - 1);
-        if pairs[last].0.option == pairs[from].0.option {
-            return last + 1;
-        }
+    let mut end = end;
+    while step <= pairs.len() - end && pairs[end + (step - 1)].0.option == pairs[from].0.option {
+        end += step;
     }
     end
 }
@@ -365,6 +363,30 @@ fn last_of(pairs: &[(Pair, bool)], replica: u8) -> u16
         }
     }
     last
+}
+
+/// The greatest sequence of the replica, 0 without any. Blocks that can't have its pairs are passed over.
+fn last_by_blocks(pairs: &[(Pair, bool)], replica: u8) -> u16
+    requires { IsTrue (map.is_sorted pair_cmp pairs.now) }
+    ensures { result ≡ last_of replica pairs.now }
+{
+    let mut last = 0;
+    let mut i = 0;
+    while pairs.len() - i > PASSED {
+        if !are_apart(pairs[i].0, pairs[i + (PASSED - 1)].0, replica) {
+            last = last.max(last_of(&pairs[i..i + PASSED], replica));
+        }
+        i += PASSED;
+    }
+    last.max(last_of(&pairs[i..], replica))
+}
+
+/// Whether no pair between these two can be the replica's: they have one option, and it isn't between their replicas.
+fn are_apart(first: Pair, last: Pair, replica: u8) -> bool
+    ensures { IsTrue result
+        ↔ ((first.option ≡ last.option) × ¬ ((first.replica ≤ replica) × (replica ≤ last.replica))) }
+{
+    first.option == last.option && !(first.replica <= replica && replica <= last.replica)
 }
 
 /// Whether some pair of the option isn't removed.
