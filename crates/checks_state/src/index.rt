@@ -8,7 +8,7 @@ ghost use Rattle.ps_index.specs.Stands.{Puts, Stands, with_put};
 
 use ps_formula::Formula;
 use ps_grid::{CELLS, COLUMNS, Cell, Refusal};
-use ps_index::Index;
+use ps_index::{Index, Spans};
 use std::alloc::Global;
 
 /// The cell that a name names.
@@ -87,10 +87,23 @@ fn refer_alike(index: &Index, twin: &Index, to: Cell) -> bool {
     others.next().is_none()
 }
 
+/// Whether the same spans stand in both lists, in the same order.
+fn are_same(spans: &Spans, twin: &Spans) -> bool {
+    if spans.len() != twin.len() {
+        return false;
+    }
+    for k in 0..spans.len() {
+        if spans.at(k) != twin.at(k) {
+            return false;
+        }
+    }
+    true
+}
+
 /// Whether the same cells refer to each cell in both, by the same spans of each column.
 fn are_alike(index: &Index, twin: &Index) -> bool {
     for column in 0..COLUMNS as u8 {
-        if index.spans(column) != twin.spans(column) {
+        if !are_same(index.spans(column), twin.spans(column)) {
             return false;
         }
     }

@@ -59,7 +59,7 @@ region_stays s t v touched source f x change region is alone left now =
     found_still s t v x (subst (λ (xs : List ℕ). IsStateChange s t v xs) alone change)
     (sym (found.left_formula x (InRegion-touched (refers_to s) (x ∷ []) x (In-self x []))) ∙ left) now f found
 
--- a region that was found is that of the one touched cell
+-- a region that was found is the one touched cell's
 pub region_found : (t : State) (touched : List ℕ) (source : Option ℕ) (f : Found)
     → IfSome source (λ c. touched ≡ c ∷ []) → IsFound (refers_to t) (formula_at t) touched f → IsRegionOf t source f
 region_found t touched None f sole found = tt

@@ -48,7 +48,7 @@ module _ (spans : List Span) (y place end least stop : ℕ) (walk : IsRowWalk sp
         run.1,
       )
 
-  -- it has come to its end
+  -- it is at its end
   pub row_end : stop ≡ end → cells_from (refers_at spans y) least CELLS ≡ []
   row_end done = elim (cases_lt least CELLS) [
     | inr ge ↦ cells_from-end (refers_at spans y) least CELLS ge

@@ -140,7 +140,7 @@ walk_past spans y starts ends runs least r start walk lt len from to gone = reco
       | inr other ↦ inr (other, get_or-set_other starts r q start 0 other)
     ]
 
--- a run of which nothing is left is taken out, and the last one comes into its place
+-- an empty run is taken out, and the last one comes into its place
 pub walk_without : (spans : List Span) (y : ℕ) (starts ends : List ℕ) (last least r : ℕ)
     → IsWalk spans y starts ends (last + 1) least → r ≤ last → r < length starts → r < length ends
     → ((i : ℕ) (d : Span) → get_or starts r 0 ≤ i → i < get_or ends r 0 → holds (get_or spans i d) y ≡ true
@@ -333,7 +333,7 @@ module _ (spans : List Span) (y : ℕ) (starts ends : List ℕ) (least start : �
     (to : start ≤ get_or ends 0 0)
     (gone : (i : ℕ) (d : Span) → get_or starts 0 0 ≤ i → i < start → holds (get_or spans i d) y ≡ true
     → cell_of spans i d < least) where
-  -- it has come to its end
+  -- it is at its end
   pub only_end : start ≡ get_or ends 0 0 → IsMoved spans y (set starts 0 start) ends 1 least CELLS
   only_end done =
       let now : get_or (set starts 0 start) 0 0 ≡ start = get_or-set_same starts 0 start 0 len in

@@ -3,5 +3,6 @@ pub mod Columns
 pub mod Counts
 pub mod Dues
 pub mod Nodes
+pub mod Parted
 pub mod Places
 pub mod Walks

@@ -9,7 +9,7 @@ ghost use Rattle.ps_index.specs.declared.span.Span.{Span as TheSpan};
 
 use crate::counts::RowCounts;
 use crate::nodes::LEVELS;
-use crate::span::Span;
+use crate::spans::Spans;
 use ps_grid::{Cell, ROWS};
 use std::marker::Model;
 
@@ -20,7 +20,7 @@ use std::marker::Model;
 #[derive(Drop)]
 pub struct RowReaders<'a> {
     /// the spans of the column
-    spans: &'a [Span],
+    spans: &'a Spans,
     /// the row that is referred to; all its spans stand together
     row: usize,
     /// the place of the next span
@@ -47,7 +47,7 @@ impl<'a> Model for RowReaders<'a> {
 impl<'a> RowReaders<'a> {
     /// The walk of the cells that refer to a row, at its beginning.
     #[inline]
-    pub(crate) fn new(spans: &'a [Span], column: &RowCounts, row: usize) -> RowReaders<'a>
+    pub(crate) fn new(spans: &'a Spans, column: &RowCounts, row: usize) -> RowReaders<'a>
         requires column { IsColumn spans.now column.now LEVELS }
         requires some { 1 ≤ row }
         requires in_grid { row ≤ ROWS }
@@ -77,7 +77,7 @@ impl Iterator for RowReaders<'_> {
         if place == self.end {
             return None;
         }
-        let cell = self.spans[place].cell;
+        let cell = self.spans.at(place).cell;
         self.place = place + 1;
         self.least = cell.index() + 1;
         Some(cell)
@@ -86,7 +86,7 @@ impl Iterator for RowReaders<'_> {
 
 /// The first of these places whose span has a cell that isn't below `least`.
 #[inline]
-fn first_from(spans: &[Span], least: usize, from: usize, to: usize) -> usize
+fn first_from(spans: &Spans, least: usize, from: usize, to: usize) -> usize
     requires ordered { from ≤ to }
     requires within { to ≤ length spans.now }
     ensures from { from ≤ result }
@@ -96,7 +96,7 @@ fn first_from(spans: &[Span], least: usize, from: usize, to: usize) -> usize
 {
     let mut place = from;
     while place < to {
-        if least <= spans[place].cell.index() {
+        if least <= spans.at(place).cell.index() {
             return place;
         }
         place += 1;

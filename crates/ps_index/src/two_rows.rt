@@ -10,7 +10,7 @@ ghost use Rattle.ps_index.specs.Spans.{cell_of, cells_from, refers_at};
 ghost use Rattle.ps_index.specs.declared.span.Span.{Span as TheSpan};
 
 use crate::counts::RowCounts;
-use crate::span::Span;
+use crate::spans::Spans;
 use crate::walk::passed;
 use ps_grid::{CELLS, Cell, ROWS};
 use std::marker::Model;
@@ -33,7 +33,7 @@ struct Head {
 #[derive(Drop)]
 pub struct TwoRowReaders<'a> {
     /// the spans of the column
-    spans: &'a [Span],
+    spans: &'a Spans,
     /// the row that is referred to
     row: usize,
     /// of the spans stored at the row itself, the first that is left and has the row
@@ -65,7 +65,7 @@ impl<'a> TwoRowReaders<'a> {
     /// the row of that level on the way down to this one.
     #[inline(always)]
     pub(crate) fn new(
-        spans: &'a [Span],
+        spans: &'a Spans,
         column: &RowCounts,
         row: usize,
         key: usize,
@@ -116,7 +116,7 @@ impl Iterator for TwoRowReaders<'_> {
 
 /// The first of these spans that has the row and a cell which isn't below `least`.
 #[inline(always)]
-fn head_from(spans: &[Span], row: usize, least: usize, from: usize, to: usize) -> Head
+fn head_from(spans: &Spans, row: usize, least: usize, from: usize, to: usize) -> Head
     requires ordered { from ≤ to }
     requires within { to ≤ length spans.now }
     requires least { least ≤ ALL }
@@ -131,7 +131,7 @@ fn head_from(spans: &[Span], row: usize, least: usize, from: usize, to: usize) -
 
 /// The head of a run after the cell `first` came; no cell that is left is below that one.
 #[inline(always)]
-fn past(spans: &[Span], row: usize, first: usize, head: Head, end: usize) -> Head
+fn past(spans: &Spans, row: usize, first: usize, head: Head, end: usize) -> Head
     requires at { IsAt spans.now row head.place end head.cell }
     requires ordered { head.place ≤ end }
     requires within { end ≤ length spans.now }
@@ -148,14 +148,14 @@ fn past(spans: &[Span], row: usize, first: usize, head: Head, end: usize) -> Hea
 
 /// The cell of the span at a place; `CELLS` if that is the end.
 #[inline(always)]
-fn cell_at(spans: &[Span], place: usize, end: usize) -> usize
+fn cell_at(spans: &Spans, place: usize, end: usize) -> usize
     requires { end ≤ length spans.now }
     ensures small { result ≤ ALL }
     ensures none { end ≤ place → result ≡ ALL }
     ensures there { place < end → (d : TheSpan) → cell_of spans.now place d ≡ result }
 {
     if place < end {
-        spans[place].cell.index()
+        spans.at(place).cell.index()
     } else {
         CELLS
     }

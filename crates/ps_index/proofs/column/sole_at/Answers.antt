@@ -1,5 +1,4 @@
 use Rattle.std.proofs.Common.{◌∙◌, ap, arith, refl, sym}
-use Rattle.std.proofs.lemmas.List.{get_or_read}
 use Rattle.ps_index.specs.Inside.Columns.{IsColumn}
 use Rattle.ps_index.specs.declared.nodes.TheConstants.{LEVELS}
 use Rattle.ps_index.specs.declared.span.Span.{Span}
@@ -16,7 +15,4 @@ returns-then-to-from-eq1 c = λ (col : IsColumn c.args.spans.now c.args.counts.n
     let from = c.kept_at-kept.ensures.from in
     let to = c.kept_at-kept.ensures.to in
     sole_one _ _ col c.args.row (omega arith) (omega arith) c.index.result (omega arith) (omega (arith, from, to))
-    (rw (sym from) (λ (d : Span). ap (λ (s : Span). s.cell)
-    (sym (get_or_read c.args.spans.now c.kept_at-kept.result.from c.index-spans-from.result
-    (omega (arith, to, col.within c.args.row (omega arith))) c.index-spans-from.is d))
-    ∙ ap (λ (s : Span). s.cell) c.index-spans-from.is ∙ sym c.index.ensures.index))
+    (rw (sym from) (λ (d : Span). ap (λ (s : Span). s.cell) (c.at.ensures.span d) ∙ sym c.index.ensures.index))

@@ -8,7 +8,7 @@ returns-in-None-clause-nobody c = λ same.
     let below = c.if-sole-gt-CELLS.false in
     let past = c.in-None.ensures in
     nobody_passes (refers_at c.args.self.now c.args.row) c.index.result.now
-    (noted_at c.self.inside.spans.items c.args.self.now c.self.inside.sole.items c.self.inside.lowest c.args.row
+    (noted_at c.self.inside.spans c.args.self.now c.self.inside.sole.items c.self.inside.lowest c.args.row
     c.index.result.now c.self.invariant.1 c.if-self-ne-LEVELS.false c.requires.some c.requires.in_grid c.index.ensures
     c.self.view_is)
     (omega (arith, below, past))
@@ -18,7 +18,7 @@ returns-in-Some-clause-one c = λ q same.
     let cell : c.in-Some.cell ≡ q = cc in
     let is = c.in-Some.ensures in
     one_passes (refers_at c.args.self.now c.args.row) c.index.result.now
-    (noted_at c.self.inside.spans.items c.args.self.now c.self.inside.sole.items c.self.inside.lowest c.args.row
+    (noted_at c.self.inside.spans c.args.self.now c.self.inside.sole.items c.self.inside.lowest c.args.row
     c.index.result.now c.self.invariant.1 c.if-self-ne-LEVELS.false c.requires.some c.requires.in_grid c.index.ensures
     c.self.view_is)
     is.0

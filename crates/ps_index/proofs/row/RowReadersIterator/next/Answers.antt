@@ -1,5 +1,4 @@
-use Rattle.std.proofs.Common.{◌≡◌, ◌<◌, ◌+◌, ◌∷◌, sym, ◌∙◌, ap, arith, length, [], Some, get_or}
-use Rattle.std.proofs.lemmas.List.{get_or_read}
+use Rattle.std.proofs.Common.{◌≡◌, ◌<◌, ◌+◌, ◌∷◌, sym, ◌∙◌, ap, arith, [], Some}
 use Rattle.ps_grid.specs.declared.size.TheConstants.{CELLS}
 use Rattle.ps_index.specs.Spans.{cell_of, cells_from, refers_at}
 use Rattle.ps_index.specs.declared.span.Span.{Span}
@@ -19,20 +18,17 @@ pub returns-clause-steps : goal.returns-clause-steps
 returns-clause-steps c =
     let spans = c.self.inside.spans.now in
     let place = c.first_from-place.result in
-    let read = c.index-self-place in
     let more : place < c.self.inside.end = omega (arith, c.first_from-place.ensures.to, c.if-place-self.false) in
-    let within : place < length spans = omega (arith, c.self.invariant.within) in
     let at : (d : Span) → cell_of spans place d ≡ c.index.result = λ (d : Span).
-    ap (λ (s : Span). s.cell) (sym (get_or_read spans place read.result within read.is d))
-    ∙ ap (λ (s : Span). s.cell) read.is ∙ sym c.index.ensures.index in
+    ap (λ (s : Span). s.cell) (c.at-cell.ensures.span d) ∙ sym c.index.ensures.index in
     sym c.self.view_is
     ∙ row_first _ _ _ _ _ place c.self.invariant c.first_from-place.ensures.from c.first_from-place.ensures.to
     c.first_from-place.ensures.passed c.index.result more at
-    (omega (arith, at read.result, c.first_from-place.ensures.from_least more read.result))
+    (omega (arith, at c.at-cell.result, c.first_from-place.ensures.from_least more c.at-cell.result))
     ∙ ap (λ n. n ∷ cells_from (refers_at spans c.self.inside.row) (c.index.result + 1) CELLS) c.index.ensures.index
 
 pub returns-clause-goes : goal.returns-clause-goes
 returns-clause-goes c =
     walk_goes _ _
-    (Some (get_or c.self.inside.spans.now c.first_from-place.result c.index-self-place.result).cell)
+    (Some c.at-cell.result.cell)
     (returns-clause-steps c)

@@ -1,0 +1,7 @@
+-- A list with free places in it.
+use Rattle.std.specs.Prelude.{ℕ, ◌+◌, List, ◌++◌, take, drop}
+use Rattle.ps_index.specs.declared.span.Span.{Span}
+
+-- the spans of these places, where `free` places behind the first `front` ones are free
+unfoldable pub parted : List Span → ℕ → ℕ → List Span
+parted places front free = take front places ++ drop (front + free) places
