@@ -8,7 +8,7 @@ ghost use Rattle.ps_desk.specs.Opening.{IsNamed};
 
 use Asked::{Enter, Pull, Receive};
 use ps_content::read_entry;
-use ps_delta::{Change, Edit};
+use ps_delta::{Change, Delta, Edit};
 use ps_desk::{Desk, DeskName, Parts, Pass, Receipt};
 use ps_eval::Meter;
 use ps_grid::{CELLS, Cell, Refusal};
@@ -89,16 +89,14 @@ fn made<L: DeskName, W: Wait + Drop, T: Threads + Wait + Sync, M: Ledger>(
     desk: &Desk<L, W>,
     pass: &mut Pass<L>,
     change: Change,
-) -> Result<Receipt, Refusal>
+) -> Result<Receipt<Delta>, Refusal>
     requires { IsBlankOf blank M.name M.parts }
 {
     let mut meter = Meter::<M>::new(blank);
     match change {
         Change::Edit(edit) => desk.edit(rt, rt, alloc, pass, edit, &mut meter),
-        // (a merge is made at a seat, and is no call of a desk)
-        Change::Delta(delta) | Change::Merge(delta) => {
-            desk.receive(rt, rt, alloc, pass, delta, &mut meter)
-        }
+        Change::Delta(delta) => desk.receive(rt, rt, alloc, pass, delta, &mut meter),
+        Change::Merge(delta) => desk.merge(rt, rt, alloc, pass, delta, &mut meter),
     }
 }
 

@@ -1,33 +1,31 @@
 -- What a receipt tells stays told of a list that was seen earlier.
 use Rattle.std.proofs.Common.{◌≡◌, ℕ, Bool, true, false, List, [], ◌∷◌, ◌++◌, length, sym, ap, ◌∙◌}
-use Rattle.std.proofs.Common.{subst, refl, Result, Ok, Err, ⊎_elim, arith, get_or, length-append, ◌-◌, ◌≤◌}
-use Rattle.std.proofs.Math.Seq.{get_or-append_seam}
-use Rattle.std.specs.Prelude.{MatchBool, IfOk, if◌then◌else◌}
+use Rattle.std.proofs.Common.{◌+◌, ◌⊎◌, inl, subst, refl, Result, Ok, ⊎_elim, arith, length-append}
+use Rattle.std.specs.Prelude.{IsOk, MatchBool, if◌then◌else◌}
 use mathlib.Core.List.{IsPrefix}
 use Rattle.ps_grid.specs.declared.refusal.Refusal.{Refusal}
+use Rattle.ps_grid.specs.declared.refusal.Refusal.TheVariants.{Memory}
 use Rattle.ps_delta.specs.State.{State, IsBelow}
 use Rattle.ps_delta.specs.Deltas.{Entries, IsDelta, joined_history, state_of}
 use Rattle.ps_delta.specs.declared.edit.Change.{Change}
+use Rattle.ps_delta.specs.declared.edit.Change.TheVariants.{Delta as Given, Edit as Asked, Merge as Merged}
 use Rattle.ps_delta.specs.declared.edit.Edit.{Edit}
 use Rattle.ps_sheet.specs.Edits.{EditsAreFresh, delta_of_edit}
-use Rattle.ps_sheet.specs.Prepared.{IsDeltaOf, PreparedView, history_after}
+use Rattle.ps_sheet.specs.Prepared.{IsDeltaOf, IsRefusedBy, IsToAppend, PreparedView, history_after}
 use Rattle.ps_sheet.specs.Staging.{IsWorkedOut}
 use Rattle.ps_face.specs.declared.patch.Note.{Note}
-use Rattle.ps_face.specs.Legal.{history_of}
+use Rattle.ps_face.specs.Legal.{IsLegal, history_of}
 use Rattle.ps_face.proofs.Beginnings.{begins_itself, begins_trans}
-use Rattle.ps_desk.specs.declared.receipt.Receipt.{Receipt}
-use Rattle.ps_desk.specs.declared.receipt.Standing.{Standing}
 use Rattle.ps_desk.specs.Passes.{PassView}
 use Rattle.ps_desk.specs.Patches.{IsNoted}
-use Rattle.ps_desk.proofs.Locked.{history_push}
-use Rattle.ps_desk.specs.Receipts.{IsAppended, IsIncluded, IsReceipt, Stands, with_delta}
+use Rattle.ps_desk.specs.Receipts.{IsAppended, IsIncluded, IsReceipt, Made, ReceiptView, Took, Unmade}
 
 on_both : (b : Bool) (P Q R S : Type 0) → (P → R) → (Q → S) → MatchBool b P Q → MatchBool b R S
 on_both true P Q R S f g m = f m
 on_both false P Q R S f g m = g m
 
 -- where more had been seen, and less is asked of the delta
-tells_more : (M N : State → Entries → Type 0) (h : List Entries) (seen mid now : List Note) (seat : ℕ) (r : Receipt)
+tells_more : (M N : State → Entries → Type 0) (h : List Entries) (seen mid now : List Note) (seat : ℕ) (r : ReceiptView)
     → ((s : State) (d : Entries) → M s d → N s d) → IsPrefix seen mid → IsReceipt M h mid now seat r
     → IsReceipt N h seen now seat r
 tells_more M N h seen mid now seat r weaker later t =
@@ -61,7 +59,7 @@ pub history_kept : (p : PreparedView) → p.fresh ≡ false → history_after p 
 history_kept p idle = ap (λ b. if b then (p.history ++ p.delta ∷ []) else p.history) idle
 
 -- what a fresh receipt tells
-pub tells_appended : (h : List Entries) (p : PreparedView) (seen now : List Note) (seat : ℕ) (r : Receipt)
+pub tells_appended : (h : List Entries) (p : PreparedView) (seen now : List Note) (seat : ℕ) (r : ReceiptView)
     → IsWorkedOut p → p.fresh ≡ true → p.history ≡ history_of h seen → IsNoted p seat seen now
     → r.number ≡ p.report.version → r.delta ≡ p.delta
     → IsAppended (λ s d. (s ≡ joined_history p.history) × (d ≡ p.delta)) h seen now seat r
@@ -85,7 +83,7 @@ tells_appended h p seen now seat r is fresh history noted number delta = record 
 }
 
 -- what another receipt tells
-pub tells_included : (h : List Entries) (p : PreparedView) (seen : List Note) (seat : ℕ) (r : Receipt)
+pub tells_included : (h : List Entries) (p : PreparedView) (seen : List Note) (seat : ℕ) (r : ReceiptView)
     → IsWorkedOut p → p.fresh ≡ false → p.history ≡ history_of h seen → r.number ≡ p.report.version
     → r.delta ≡ p.delta → r.fresh ≡ false
     → IsReceipt (λ s d. (s ≡ joined_history p.history) × (d ≡ p.delta)) h seen seen seat r
@@ -106,53 +104,87 @@ module _ (list : List Note) (old new : PassView) where
   pub caught_seat : new ≡ record old { list = list } → new.seat ≡ old.seat
   caught_seat is = ap (λ (q : PassView). q.seat) is
 
+-- what a pass has seen that caught up with a legal list
+pub took_caught : (h : List Entries) (old new : PassView) (list : List Note) → IsPrefix old.list list
+    → new ≡ record old { list = list } → IsLegal h list → Took h old new
+took_caught h old new list later is legal = record {
+  later = caught_later list old new later is;
+  legal = subst (λ (l : List Note). IsLegal h l) (sym (ap (λ (q : PassView). q.list) is)) legal;
+  same = (caught_seat list old new is, ap (λ (q : PassView). q.enters) is);
+}
+
+-- .. and then was told of more
+pub took_more : (h : List Entries) (old mid new : PassView) → Took h old mid → IsPrefix mid.list new.list
+    → IsLegal h new.list → (new.seat ≡ mid.seat) × (new.enters ≡ mid.enters) → Took h old new
+took_more h old mid new took later legal same = record {
+  later = begins_trans old.list mid.list new.list took.later later;
+  legal = legal;
+  same = (same.0 ∙ took.same.0, same.1 ∙ took.same.1);
+}
+
 -- what is told of a prepared change is told of the change
-pub stands_change : (r : ℕ) (h : List Entries) (change : Change) (p : PreparedView) (res : Result Standing Refusal)
-    (old mid : PassView) (now : List Note) → IsPrefix old.list mid.list → mid.seat ≡ old.seat → IsDelta p.delta
-    → IsDeltaOf r (joined_history p.history) change p.delta
-    → IfOk res (λ s. IsReceipt (λ s d. (s ≡ joined_history p.history) × (d ≡ p.delta)) h mid.list now mid.seat
-    (with_delta s p.delta))
-    → IfOk res (Stands (λ s d. IsDeltaOf r s change d) h old.list now old.seat)
-stands_change r h change p (Ok t) old mid now later seat is made told =
+pub made_change : {X : Type 0} (tells : X → Entries → Type 0) (r : ℕ) (h : List Entries) (change : Change)
+    (p : PreparedView) (number : ℕ) (enclosed : X) (fresh : Bool) (old mid new : PassView)
+    → IsPrefix old.list mid.list → mid.seat ≡ old.seat → mid.appended ≡ old.appended → IsDelta p.delta
+    → tells enclosed p.delta → IsDeltaOf r (joined_history p.history) change p.delta
+    → IsReceipt (λ s d. (s ≡ joined_history p.history) × (d ≡ p.delta)) h mid.list new.list mid.seat
+    (record { number = number; delta = p.delta; fresh = fresh })
+    → new.appended ≡ mid.appended + (if fresh then 1 else 0)
+    → Made tells r h change old new number enclosed fresh
+made_change tells r h change p number enclosed fresh old mid new later seat count is encloses made told counted =
     let M : State → Entries → Type 0 = λ s d. (s ≡ joined_history p.history) × (d ≡ p.delta) in
     let N : State → Entries → Type 0 = λ s d. IsDeltaOf r s change d in
+    let receipt : ReceiptView = record { number = number; delta = p.delta; fresh = fresh } in
     record {
       delta = p.delta;
       is_delta = is;
-      tells = tells_more M N h old.list mid.list now old.seat (with_delta t p.delta)
+      encloses = encloses;
+      stands = tells_more M N h old.list mid.list new.list old.seat receipt
           (λ s d m. subst (λ (z : State × Entries). IsDeltaOf r z.0 change z.1) (λ i. (sym m.0 i, sym m.1 i)) made)
-          later (subst (λ n. IsReceipt M h mid.list now n (with_delta t p.delta)) seat told);
+          later (subst (λ n. IsReceipt M h mid.list new.list n receipt) seat told);
+      counted = counted ∙ ap (λ n. n + (if fresh then 1 else 0)) count;
     }
-stands_change r h change p (Err e) old mid now later seat is made told = tt
 
-module _ (r : ℕ) (h : List Entries) (edit : Edit) (seen now : List Note) (seat : ℕ) (s : Standing) where
+-- a change whose delta isn't below the state was to be appended
+to_append : (r : ℕ) (s : State) (change : Change) (d : Entries) → IsDeltaOf r s change d → ¬ IsBelow (state_of d) s
+    → IsToAppend r s change
+to_append r s (Asked edit) d made new = subst (λ (x : Result Entries Refusal). IsOk x) (sym made) refl
+to_append r s (Given a) d made new = subst (λ (x : Entries). ¬ IsBelow (state_of x) s) made new
+to_append r s (Merged a) d made new =
+    ⊎_elim (λ t. absurd (new (subst (λ (x : Entries). IsBelow (state_of x) s) (sym t.1) t.0))) (λ n. n.some) made
+
+module _ (r : ℕ) (h : List Entries) (change : Change) (old new : PassView) (e : Refusal) (history : List Entries)
+    (all : history ≡ history_of h new.list) (counted : new.appended ≡ old.appended) where
+  -- a change that couldn't be worked out
+  pub unstaged : (e ≡ Memory) ⊎ IsRefusedBy r (joined_history history) change e
+      → (e ≡ Memory → IsToAppend r (joined_history history) change) → Unmade r h change old new e
+  unstaged cause asked = record {
+    cause = subst (λ (k : List Entries). (e ≡ Memory) ⊎ IsRefusedBy r (joined_history k) change e) all cause;
+    asked = λ memory. subst (λ (k : List Entries). IsToAppend r (joined_history k) change) all (asked memory);
+    counted = counted;
+  }
+
+  -- a change that was worked out and couldn't be published
+  pub unpublished : (d : Entries) → IsDeltaOf r (joined_history history) change d → e ≡ Memory
+      → ¬ IsBelow (state_of d) (joined_history history) → Unmade r h change old new e
+  unpublished d made memory new_there =
+      unstaged (inl memory) (λ _. to_append r (joined_history history) change d made new_there)
+
+module _ (r : ℕ) (h : List Entries) (edit : Edit) (seen now : List Note) (seat number : ℕ) (fresh : Bool) where
   -- what an edit makes
   abbrev pub Makes : State → Entries → Type 0
   Makes t d = delta_of_edit r t edit ≡ Ok d
 
-  by_fresh : EditsAreFresh → (d : Entries) → IsDelta d → (b : Bool) → s.fresh ≡ b
-      → MatchBool b (IsAppended Makes h seen now seat (with_delta s d)) (IsIncluded Makes h now (with_delta s d))
-      → (s.fresh ≡ true) × IsAppended Makes h seen now seat (with_delta s d)
-  by_fresh fresh d is true so a = (so, a)
-  by_fresh fresh d is false so a =
-      absurd (fresh r (joined_history (history_of h now)) edit d is a.made a.below)
+  abbrev receipt_of : Entries → ReceiptView
+  receipt_of d = record { number = number; delta = d; fresh = fresh }
+
+  by_fresh : EditsAreFresh → (d : Entries) → IsDelta d → (b : Bool) → fresh ≡ b
+      → MatchBool b (IsAppended Makes h seen now seat (receipt_of d)) (IsIncluded Makes h now (receipt_of d))
+      → (fresh ≡ true) × IsAppended Makes h seen now seat (receipt_of d)
+  by_fresh law d is true so a = (so, a)
+  by_fresh law d is false so a = absurd (law r (joined_history (history_of h now)) edit d is a.made a.below)
 
   -- an edit is always appended
-  pub edit_stands : EditsAreFresh → (stands : Stands Makes h seen now seat s)
-      → (s.fresh ≡ true) × IsAppended Makes h seen now seat (with_delta s stands.delta)
-  edit_stands fresh stands = by_fresh fresh stands.delta stands.is_delta s.fresh refl stands.tells
-
--- the delta of an appended change stands at its number in the history
-pub stands_there : (M : State → Entries → Type 0) (h : List Entries) (seen now : List Note) (seat : ℕ) (r : Receipt)
-    → IsAppended M h seen now seat r
-    → (1 ≤ r.number) × (r.number ≤ length (history_of h now)) × (get_or (history_of h now) (r.number - 1) [] ≡ r.delta)
-stands_there M h seen now seat r a =
-    let before : List Entries = history_of h a.before in
-    let all : history_of h now ≡ before ++ a.patch.delta ∷ [] =
-    ap (history_of h) a.last ∙ history_push h a.before a.patch in
-    let position : r.number - 1 ≡ length before = omega (arith, a.number) in (
-      omega (arith, a.number),
-      omega (arith, a.number, ap length all, length-append before (a.patch.delta ∷ [])),
-      ap (λ n. get_or (history_of h now) n []) position ∙ ap (λ xs. get_or xs (length before) []) all
-          ∙ get_or-append_seam before a.patch.delta [] [] ∙ a.delta,
-    )
+  pub edit_appended : EditsAreFresh → (d : Entries) → IsDelta d → IsReceipt Makes h seen now seat (receipt_of d)
+      → (fresh ≡ true) × IsAppended Makes h seen now seat (receipt_of d)
+  edit_appended law d is tells = by_fresh law d is fresh refl tells

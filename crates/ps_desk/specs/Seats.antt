@@ -27,15 +27,14 @@ use Rattle.ps_lines.specs.declared.command.Command.{Command}
 use Rattle.ps_lines.specs.declared.command.Command.TheVariants.{Edit, Entries as AllEntries, Entry, Get, Merge}
 use Rattle.ps_lines.specs.declared.command.Command.TheVariants.{Pull, Push, Replica, Rows, Wait}
 use Rattle.ps_desk.specs.Passes.{PassView}
-use Rattle.ps_desk.specs.Receipts.{IsAppended, IsReceipt, merged_of}
-use Rattle.ps_desk.specs.declared.receipt.Receipt.{Receipt}
+use Rattle.ps_desk.specs.Receipts.{IsAppended, IsReceipt, ReceiptView, merged_of}
 
 -- an edit was made: the list ends with a patch of this seat, which has the edit's delta over all before it, and the
 -- reply has its number
 pub record IsEdited (r : ℕ) (h : List Entries) (edit : SheetEdit) (old : PassView) (text : List ℕ) (new : PassView) :
     Type 0 where
   pub legal : IsLegal h new.list
-  pub receipt : Receipt
+  pub receipt : ReceiptView
   pub appended : IsAppended (λ s d. delta_of_edit r s edit ≡ Ok d) h old.list new.list old.seat receipt
   pub told : text ≡ done_text receipt.number
   pub counted : new.appended ≡ old.appended + 1
@@ -88,7 +87,7 @@ pub record IsHandedOut (h : List Entries) (from most : ℕ) (old : PassView) (te
 pub record IsTakenIn (h : List Entries) (delta : Entries) (old : PassView) (text : List ℕ) (new : PassView) : Type 0
   where
     pub legal : IsLegal h new.list
-    pub receipt : Receipt
+    pub receipt : ReceiptView
     pub tells : IsReceipt (λ s d. d ≡ delta) h old.list new.list old.seat receipt
     pub told : text ≡ done_text receipt.number
     pub counted : new.appended ≡ old.appended + (if receipt.fresh then 1 else 0)
@@ -99,7 +98,7 @@ pub record IsTakenIn (h : List Entries) (delta : Entries) (old : PassView) (text
 pub record IsMergedIn (h : List Entries) (delta : Entries) (old : PassView) (text : List ℕ) (new : PassView) : Type 0
   where
     pub legal : IsLegal h new.list
-    pub receipt : Receipt
+    pub receipt : ReceiptView
     pub tells : IsReceipt (λ s d. IsMergedAs s delta d) h old.list new.list old.seat receipt
     pub told : text ≡ merged_text (merged_of receipt.number receipt.fresh)
     pub counted : new.appended ≡ old.appended + (if receipt.fresh then 1 else 0)

@@ -13,12 +13,12 @@ ghost use Rattle.ps_sheet.specs.Staging.{IsWorkedOut};
 ghost use Rattle.ps_face.specs.Legal.{Follows, history_of};
 ghost use Rattle.ps_desk.specs.UnderLock.{IsUnderLock};
 ghost use Rattle.ps_desk.specs.Patches.{IsNoted, KeepsChange, change_in, found_in, note_of, staged_in};
-ghost use Rattle.ps_desk.specs.Receipts.{IsReceipt, with_delta};
+ghost use Rattle.ps_desk.specs.Receipts.{IsReceipt};
 ghost use Rattle.ps_desk.specs.declared.showing.Showing.TheVariants.{AtOnce};
 
 use crate::name::DeskName;
 use crate::pass::Pass;
-use crate::patch::{patch_of_listed, patch_of_one};
+use crate::patch::patch_of;
 use crate::receipt::Standing;
 use crate::showing::Showing;
 use crate::shown_position::ShownPosition;
@@ -90,7 +90,7 @@ pub(crate) fn finish<L: DeskName, W: Wait + Drop, V: Wait>(
     ensures shown { showing ≡ AtOnce → copies.new.shown ≡ copies.new.list }
     ensures receipt { IfOk result (λ r. IsReceipt (λ s d. (s ≡ joined_history sheet.old.history)
         × (d ≡ (change_in sheet.old).delta)) L.opening pass.old.list pass.new.list pass.old.seat
-        (with_delta r (change_in sheet.old).delta)) }
+        (record { number = r.number; delta = (change_in sheet.old).delta; fresh = r.fresh })) }
     ensures memory { IfErr result (λ e. e ≡ Memory) }
     ensures asked { OnErr result (¬ IsBelow (state_of ((change_in sheet.old).delta))
         (joined_history sheet.old.history)) }
@@ -204,43 +204,7 @@ fn tell<L: DeskName, W: Wait + Drop>(
     ensures kept { OnErr result (copies.new ≡ copies.old) }
     ensures memory { IfErr result (λ e. e ≡ Memory) }
 {
-    match one {
-        Some(cell) => {
-            let kept = sheet.all_shown().kept(cell).twin(alloc)?;
-            let patch = patch_of_one(sheet, cell, kept, owner);
-            let number = patch.number();
-            publish(copies, patch, showing)?;
-            Ok(number)
-        }
-        None => tell_listed(alloc, sheet, copies, owner, showing),
-    }
-}
-
-/// Does the same as `tell` for a change whose changed cells are listed.
-#[inline(never)]
-fn tell_listed<L: DeskName, W: Wait + Drop>(
-    alloc: Global,
-    sheet: &Staging,
-    copies: &mut FaceWriter<L, W>,
-    owner: u64,
-    showing: Showing,
-) -> Result<u64, Refusal>
-    requires staged { is_some sheet.now.staged ≡ true }
-    requires fresh { (change_in sheet.now).fresh ≡ true }
-    requires found { IsChanged (shown_before (change_in sheet.now)) (shown_at sheet.now.shown)
-        (staged_in sheet.now).changed }
-    requires history { sheet.now.history ≡ history_of L.opening copies.old.list }
-    requires none { copies.old.pending ≡ [] }
-    ensures list { OnOk result (copies.new.list
-        ≡ copies.old.list ++ note_of sheet.now (staged_in sheet.now).changed owner ∷ []) }
-    ensures number { IfOk result (λ n. n ≡ (change_in sheet.now).report.version) }
-    ensures bound { IfOk result (λ n. n < 2 ^ 64) }
-    ensures shown { OnOk result (showing ≡ AtOnce → copies.new.shown ≡ copies.new.list) }
-    ensures none { OnOk result (copies.new.pending ≡ []) }
-    ensures kept { OnErr result (copies.new ≡ copies.old) }
-    ensures memory { IfErr result (λ e. e ≡ Memory) }
-{
-    let patch = patch_of_listed(alloc, sheet, owner)?;
+    let patch = patch_of(alloc, sheet, one, owner)?;
     let number = patch.number();
     publish(copies, patch, showing)?;
     Ok(number)

@@ -9,18 +9,16 @@ ghost use Rattle.ps_delta.specs.State.{IsBelow};
 ghost use Rattle.ps_delta.specs.Deltas.{joined_history, state_of};
 ghost use Rattle.ps_sheet.specs.Edits.{delta_of_edit};
 ghost use Rattle.ps_sheet.specs.Own.{has_own};
-ghost use Rattle.ps_sheet.specs.Prepared.{IsDeltaOf, IsRefusedBy, IsToAppend};
+ghost use Rattle.ps_sheet.specs.Merges.{IsMergedAs};
 ghost use Rattle.ps_csv.specs.Exports.{entry_text, exported_entries, held_in};
 ghost use Rattle.ps_face.specs.declared.patch.Note.{Note};
 ghost use Rattle.ps_face.specs.Legal.{IsLegal, history_of};
-ghost use Rattle.ps_desk.specs.Receipts.{IsAppended, IsReceipt, Stands};
+ghost use Rattle.ps_desk.specs.Receipts.{Encloses, IsAppended, IsReceipt, Made, Took, Unmade};
 
-use crate::change::share;
 use crate::name::DeskName;
 use crate::pass::Pass;
 use crate::presence::{Alarm, Presence};
-use crate::receipt::{Receipt, Standing};
-use crate::showing::Showing;
+use crate::receipt::{Enclosure, Receipt};
 use crate::shown_position::ShownPosition;
 use crate::state::DeskState;
 use ps_csv::entries_text;
@@ -108,15 +106,18 @@ impl<L: DeskName, W: Wait + Drop> Desk<L, W> {
 
     /// Makes the delta of an edit over the sheet's state, appends it to the history, and shows it to all readers.
     ///
-    /// This and [`Desk::receive`] are for callers that want the delta back. The program calls neither: a
-    /// [`crate::Seat`] makes its changes by `change`, which does the same without the delta.
+    /// The receipt encloses the delta, or nothing where the caller doesn't want it back ([`crate::Unenclosed`]).
+    ///
+    /// The change is shown at once, with all that waits. Where the pass is at a [`crate::Seat`] with a keeper, a change
+    /// that directly follows another one waits until the session looks or sends its replies.
     ///
     /// Refused as [`ps_sheet::Sheet::edit`] is, over the history that the pass has then seen. Where there is such a
     /// delta, it may also fail when out of memory. It may wait for other calls, and for readers of what was published
     /// before the last patch.
     ///
     /// Cost: that of [`ps_sheet::Staging::stage`], and twice the cells that show another value.
-    pub fn edit<R: Threads + Sync, V: Wait, M: Ledger>(
+    #[inline(always)]
+    pub fn edit<R: Threads + Sync, V: Wait, M: Ledger, E: Enclosure + Drop>(
         &self,
         rt: &R,
         wait: &V,
@@ -124,38 +125,32 @@ impl<L: DeskName, W: Wait + Drop> Desk<L, W> {
         pass: &mut Pass<L>,
         edit: Edit,
         meter: &mut Meter<M>,
-    ) -> Result<Receipt, Refusal>
-        ensures later { IsPrefix pass.old.list pass.new.list }
-        ensures legal { IsLegal L.opening pass.new.list }
+    ) -> Result<Receipt<E>, Refusal>
+        ensures took { Took L.opening pass.old pass.new }
         ensures fresh { IfOk result (λ r. r.fresh ≡ true) }
-        ensures receipt { IfOk result (IsAppended (λ s d. delta_of_edit L.replica s edit ≡ Ok d) L.opening
-            pass.old.list pass.new.list pass.old.seat) }
+        ensures receipt { IfOk result (λ r. Encloses E.tells (IsAppended (λ s d. delta_of_edit L.replica s edit ≡ Ok d)
+            L.opening pass.old.list pass.new.list pass.old.seat) r.number r.enclosed r.fresh) }
         ensures refused { IfErr result (λ e. (e ≡ Memory)
             ⊎ (delta_of_edit L.replica (joined_history (history_of L.opening pass.new.list)) edit ≡ Err e)) }
         ensures asked { IfErr result (λ e. e ≡ Memory
             → IsOk (delta_of_edit L.replica (joined_history (history_of L.opening pass.new.list)) edit)) }
         ensures counted { OnOk result (pass.new.appended ≡ pass.old.appended + 1) }
         ensures uncounted { OnErr result (pass.new.appended ≡ pass.old.appended) }
-        ensures seat { (pass.new.seat ≡ pass.old.seat) × (pass.new.enters ≡ pass.old.enters) }
     {
-        let mut state = self.state.lock(wait);
-        let change = Change::Edit(edit);
-        let standing = state.make(rt, wait, alloc, pass, change, meter, Showing::AtOnce)?;
+        let receipt = self.change(rt, wait, alloc, pass, Change::Edit(edit), meter)?;
         // for the fact that an edit's delta is never below the state
         edits_are_fresh();
-        let delta = state.delta_at(wait, alloc, standing.number);
-        drop(state);
-        self.wake(true);
-        Ok(standing.with_delta(delta))
+        Ok(receipt)
     }
 
-    /// Accepts a delta made elsewhere: appends it to the history and shows it to all readers, unless it adds nothing
-    /// new.
+    /// Accepts a delta made elsewhere: appends it to the history and shows it to all readers, as [`Desk::edit`] does,
+    /// unless it adds nothing new.
     ///
     /// Fails only when out of memory, and only where the delta was to be appended. It may wait as [`Desk::edit`] does.
     ///
     /// Cost: that of [`ps_sheet::Staging::stage`], and twice the cells that show another value.
-    pub fn receive<R: Threads + Sync, V: Wait, M: Ledger>(
+    #[inline(always)]
+    pub fn receive<R: Threads + Sync, V: Wait, M: Ledger, E: Enclosure + Drop>(
         &self,
         rt: &R,
         wait: &V,
@@ -163,29 +158,54 @@ impl<L: DeskName, W: Wait + Drop> Desk<L, W> {
         pass: &mut Pass<L>,
         delta: Delta,
         meter: &mut Meter<M>,
-    ) -> Result<Receipt, Refusal>
-        ensures later { IsPrefix pass.old.list pass.new.list }
-        ensures legal { IsLegal L.opening pass.new.list }
-        ensures receipt { IfOk result (IsReceipt (λ s d. d ≡ delta) L.opening pass.old.list pass.new.list
-            pass.old.seat) }
+    ) -> Result<Receipt<E>, Refusal>
+        ensures took { Took L.opening pass.old pass.new }
+        ensures receipt { IfOk result (λ r. Encloses E.tells (IsReceipt (λ s d. d ≡ delta) L.opening pass.old.list
+            pass.new.list pass.old.seat) r.number r.enclosed r.fresh) }
         ensures memory { IfErr result (λ e. e ≡ Memory) }
         ensures asked { OnErr result (¬ IsBelow (state_of delta)
             (joined_history (history_of L.opening pass.new.list))) }
         ensures counted { IfOk result (λ r. pass.new.appended
             ≡ pass.old.appended + (if r.fresh then 1 else 0)) }
         ensures uncounted { OnErr result (pass.new.appended ≡ pass.old.appended) }
-        ensures seat { (pass.new.seat ≡ pass.old.seat) × (pass.new.enters ≡ pass.old.enters) }
     {
-        let told = share(wait, alloc, &delta);
-        let change = Change::Delta(delta);
-        let standing = self.change(rt, wait, alloc, pass, change, meter, Showing::AtOnce)?;
-        Ok(standing.with_delta(told))
+        let receipt = self.change(rt, wait, alloc, pass, Change::Delta(delta), meter)?;
+        Ok(receipt)
     }
 
-    /// Makes a change as [`Desk::edit`] and [`Desk::receive`] do, and returns where it stands, without the delta. It is
-    /// shown to readers at once, or later.
+    /// Merges a delta made elsewhere: appends what is new of it, as [`Desk::receive`] appends a delta, unless nothing
+    /// is. The receipt encloses what was new.
+    ///
+    /// Fails only when out of memory, and only where something is new. It may wait as [`Desk::edit`] does.
+    ///
+    /// Cost: that of [`ps_sheet::Staging::stage`], and twice the cells that show another value.
     #[inline(always)]
-    pub(crate) fn change<R: Threads + Sync, V: Wait, M: Ledger>(
+    pub fn merge<R: Threads + Sync, V: Wait, M: Ledger, E: Enclosure + Drop>(
+        &self,
+        rt: &R,
+        wait: &V,
+        alloc: Global,
+        pass: &mut Pass<L>,
+        delta: Delta,
+        meter: &mut Meter<M>,
+    ) -> Result<Receipt<E>, Refusal>
+        ensures took { Took L.opening pass.old pass.new }
+        ensures receipt { IfOk result (λ r. Encloses E.tells (IsReceipt (λ s d. IsMergedAs s delta d) L.opening
+            pass.old.list pass.new.list pass.old.seat) r.number r.enclosed r.fresh) }
+        ensures memory { IfErr result (λ e. e ≡ Memory) }
+        ensures asked { OnErr result (¬ IsBelow (state_of delta)
+            (joined_history (history_of L.opening pass.new.list))) }
+        ensures counted { IfOk result (λ r. pass.new.appended
+            ≡ pass.old.appended + (if r.fresh then 1 else 0)) }
+        ensures uncounted { OnErr result (pass.new.appended ≡ pass.old.appended) }
+    {
+        let receipt = self.change(rt, wait, alloc, pass, Change::Merge(delta), meter)?;
+        Ok(receipt)
+    }
+
+    /// Makes a change for [`Desk::edit`], [`Desk::receive`] and [`Desk::merge`], under the lock.
+    #[inline(always)]
+    fn change<R: Threads + Sync, V: Wait, M: Ledger, E: Enclosure + Drop>(
         &self,
         rt: &R,
         wait: &V,
@@ -193,36 +213,43 @@ impl<L: DeskName, W: Wait + Drop> Desk<L, W> {
         pass: &mut Pass<L>,
         change: Change,
         meter: &mut Meter<M>,
-        showing: Showing,
-    ) -> Result<Standing, Refusal>
-        ensures later { IsPrefix pass.old.list pass.new.list }
-        ensures legal { IsLegal L.opening pass.new.list }
-        ensures stands { IfOk result (Stands (λ s d. IsDeltaOf L.replica s change d) L.opening pass.old.list
-            pass.new.list pass.old.seat) }
-        ensures refused { IfErr result (λ e. (e ≡ Memory)
-            ⊎ IsRefusedBy L.replica (joined_history (history_of L.opening pass.new.list)) change e) }
-        ensures asked { IfErr result (λ e. e ≡ Memory
-            → IsToAppend L.replica (joined_history (history_of L.opening pass.new.list)) change) }
-        ensures counted { IfOk result (λ s. pass.new.appended
-            ≡ pass.old.appended + (if s.fresh then 1 else 0)) }
-        ensures uncounted { OnErr result (pass.new.appended ≡ pass.old.appended) }
-        ensures seat { (pass.new.seat ≡ pass.old.seat) × (pass.new.enters ≡ pass.old.enters) }
+    ) -> Result<Receipt<E>, Refusal>
+        ensures took { Took L.opening pass.old pass.new }
+        ensures made { IfOk result (λ r. Made E.tells L.replica L.opening change pass.old pass.new
+            r.number r.enclosed r.fresh) }
+        ensures unmade { IfErr result (Unmade L.replica L.opening change pass.old pass.new) }
     {
+        let showing = pass.next_showing();
         let mut state = self.state.lock(wait);
         let made = state.make(rt, wait, alloc, pass, change, meter, showing);
         drop(state);
+        pass.has_changed();
         self.wake(!showing.hides());
         made
     }
 
-    /// Shows all waiting changes, of every session, to readers, and returns the token for all that the pass has seen.
+    /// Shows all that the pass has seen to readers, with whatever else waits, and returns the token for it.
     ///
     /// A change waits if it was made at a [`crate::Seat`] with a keeper, directly after another one, until the session
     /// looks or sends its replies. Every other call of a desk that brings a pass to the end of the list shows waiting
     /// changes, too. It may wait for other calls, and for readers of what was shown before.
     ///
-    /// Cost: that of publishing, which is a constant for each slot; constant where nothing waits.
+    /// Cost: that of publishing, which is a constant for each slot. Where nothing waits that the pass has seen, it is
+    /// constant, and takes no lock.
+    #[inline]
     pub fn show<V: Wait>(&self, wait: &V, pass: &mut Pass<L>) -> ShownPosition<L>
+        ensures shown { result ≡ pass.old.list }
+        ensures same { pass.new ≡ pass.old }
+    {
+        pass.looks();
+        match pass.shown() {
+            Some(shown) => shown,
+            None => self.show_all(wait, pass),
+        }
+    }
+
+    /// Does what [`Desk::show`] does, under the lock.
+    fn show_all<V: Wait>(&self, wait: &V, pass: &mut Pass<L>) -> ShownPosition<L>
         ensures shown { result ≡ pass.old.list }
         ensures same { pass.new ≡ pass.old }
     {
@@ -246,9 +273,7 @@ impl<L: DeskName, W: Wait + Drop> Desk<L, W> {
             × (pass.new.enters ≡ pass.old.enters) }
     {
         let mut state = self.state.lock(wait);
-        let shown = state.show();
-        pass.catch_up(wait, state.front());
-        let _ = pass.note_shown(wait, &shown);
+        state.look(wait, pass);
         state.version()
     }
 
@@ -368,9 +393,7 @@ impl<L: DeskName, W: Wait + Drop> Desk<L, W> {
             × (pass.new.enters ≡ pass.old.enters) }
     {
         let mut state = self.state.lock(wait);
-        let shown = state.show();
-        pass.catch_up(wait, state.front());
-        let _ = pass.note_shown(wait, &shown);
+        state.look(wait, pass);
         state.deltas_after(alloc, from, at_most)
     }
 
@@ -439,9 +462,7 @@ impl<L: DeskName, W: Wait + Drop> Desk<L, W> {
             × (pass.new.enters ≡ pass.old.enters) }
     {
         let mut state = self.state.lock(wait);
-        let shown = state.show();
-        pass.catch_up(wait, state.front());
-        let _ = pass.note_shown(wait, &shown);
+        state.look(wait, pass);
         state.entry(alloc, cell)
     }
 
@@ -468,9 +489,7 @@ impl<L: DeskName, W: Wait + Drop> Desk<L, W> {
             × (pass.new.enters ≡ pass.old.enters) }
     {
         let mut state = self.state.lock(wait);
-        let shown = state.show();
-        pass.catch_up(wait, state.front());
-        let _ = pass.note_shown(wait, &shown);
+        state.look(wait, pass);
         let copied = state.copied(alloc, rect);
         drop(state);
         // for the fact that it lies in the grid

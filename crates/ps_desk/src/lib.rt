@@ -16,8 +16,8 @@
 //! The contracts to use:
 //!
 //! - What the pass has seen only grows.
-//! - A fresh [`Receipt`] of [`Desk::edit`] or [`Desk::receive`] has a number above all that was seen before, and its
-//!   delta stands there.
+//! - A fresh [`Receipt`] of [`Desk::edit`], [`Desk::receive`] or [`Desk::merge`] has a number above all that was seen
+//!   before, and its delta stands there.
 //! - A read ([`Pass::read`], [`Pass::read_all`]) shows the settled values of a whole history, which has all that the
 //!   pass had seen or appended.
 //! - A pull ([`Desk::pull`]) returns exactly the deltas after a number.
@@ -25,16 +25,16 @@
 //!   what the passes appended.
 //!
 //! A [`Seat`] is a desk and a session's pass. It is a `Board` of `ps_session`, so `converse` answers the lines of a
-//! session by it. It makes a change in the same way as [`Desk::edit`] and [`Desk::receive`], and gets the receipt
-//! without the delta, since no reply has it. So the program calls neither of these two, nor [`Pass::read_all`].
+//! session by it. Its receipts enclose nothing, since no reply has the delta. The program doesn't call
+//! [`Pass::read_all`].
 //!
 //! What the pass has seen after a line is what it has seen before the next (`specs/Seats.antt`). A whole session
 //! continues from what its pass was (`GoesOn`), even if it fails: see the lemmas of `proofs/SeatRuns.antt`. At its end
 //! [`Seat::leave`] shows what the session has seen, and returns the pass.
 //!
 //! A [`Position`] is a beginning of the list, and a [`ShownPosition`] one that is shown to all readers. Only a look at
-//! the copies makes such a token, or a call that shows waiting changes. A session sends no reply before its
-//! [`Publisher`] has a token for all that the session has seen. So whatever a reply mentions is visible to everyone.
+//! the copies makes such a token, or a call that shows waiting changes. A session sends no reply before its keeper has
+//! a token for all that the session has seen. So whatever a reply mentions is visible to everyone.
 //!
 //! Code without a session slot, such as a journal, follows what is shown from position to position. For it
 //! [`Desk::later`] returns the deltas after a number, and no pass sees more because of it. [`Desk::close_at`] moves
@@ -59,6 +59,7 @@ mod change;
 mod close;
 mod copied;
 mod desk;
+mod laws;
 mod name;
 mod open;
 mod parts;
@@ -66,7 +67,6 @@ mod pass;
 mod patch;
 mod position;
 mod presence;
-mod publisher;
 mod receipt;
 mod seat;
 mod shot;
@@ -76,13 +76,13 @@ mod state;
 mod threads;
 
 pub use desk::Desk;
+pub use laws::coming_back_shows_what_was_told;
 pub use name::DeskName;
 pub use parts::Parts;
 pub use pass::Pass;
 pub use position::Position;
 pub use presence::{Alarm, Lookout, Presence, Watch};
-pub use publisher::Publisher;
-pub use receipt::Receipt;
+pub use receipt::{Enclosure, Receipt, Unenclosed};
 pub use seat::Seat;
 pub use shot::Shot;
 pub use shown_position::ShownPosition;

@@ -14,6 +14,7 @@ use crate::copied::CopiedValues;
 use crate::name::DeskName;
 use crate::position::Position;
 use crate::shot::Shot;
+use crate::showing::{Showing, Stream};
 use crate::shown_position::ShownPosition;
 use ps_csv::exported_text;
 use ps_face::{BookPrefix, FaceReader, Seen};
@@ -35,6 +36,8 @@ pub struct Pass<L: DeskName> {
     share: Share<L>,
     appended: u64,
     seat: u64,
+    /// how the session's changes follow each other
+    stream: Stream,
 }
 
 impl<L: DeskName> Model for Pass<L> {
@@ -74,6 +77,7 @@ impl<L: DeskName> Pass<L> {
             share,
             appended: 0,
             seat,
+            stream: Stream::new(),
         }
     }
 
@@ -196,7 +200,37 @@ impl<L: DeskName> Pass<L> {
             unreachable!()
         };
         self.shown = own.again();
+        self.stream.has_changed = false;
         own
+    }
+
+    /// Returns when the session's next change is shown.
+    #[inline(always)]
+    pub(crate) fn next_showing(&self) -> Showing {
+        self.stream.next()
+    }
+
+    /// Records that the session has changed something.
+    #[inline(always)]
+    pub(crate) fn has_changed(&mut self)
+        ensures { self.new ≡ self.old }
+    {
+        self.stream.has_changed = true;
+    }
+
+    /// Records that the session looks, or sends its replies.
+    #[inline(always)]
+    pub(crate) fn looks(&mut self)
+        ensures { self.new ≡ self.old }
+    {
+        self.stream.has_changed = false;
+    }
+
+    /// Leaves it to a keeper to show the session's changes before its replies are sent, or no longer.
+    pub(crate) fn leave_to_keeper(&mut self, is_kept: bool)
+        ensures { self.new ≡ self.old }
+    {
+        self.stream.is_kept = is_kept;
     }
 
     /// Marks the list as seen up to a position that is shown, or further where it was already. Each later look has

@@ -95,26 +95,18 @@ pub struct Watch<'a> {
     pub number: usize,
 }
 
-/// A session's peer: that of a connection, or one that can't be observed.
+/// A session's peer, at the other end of a connection.
 #[derive(Clone, Copy)]
 pub struct Presence<'a> {
-    stream: Option<&'a TcpStream>,
+    stream: &'a TcpStream,
     watch: Option<Watch<'a>>,
 }
 
 impl<'a> Presence<'a> {
-    /// Returns a peer that can't be observed. It counts as waiting.
-    pub fn none() -> Presence<'a> {
-        Presence {
-            stream: None,
-            watch: None,
-        }
-    }
-
     /// Returns the peer at the other end of this connection. Nobody else may read its bytes meanwhile.
     pub fn of(stream: &'a TcpStream) -> Presence<'a> {
         Presence {
-            stream: Some(stream),
+            stream,
             watch: None,
         }
     }
@@ -129,12 +121,9 @@ impl<'a> Presence<'a> {
 
     /// Returns whether the peer has neither gone nor sent more.
     ///
-    /// Cost: three system calls, where there is a connection.
+    /// Cost: three system calls.
     pub fn is_waiting(&self) -> bool {
-        match self.stream {
-            Some(stream) => is_silent(stream),
-            None => true,
-        }
+        is_silent(self.stream)
     }
 
     /// Returns an alarm that is raised once the peer goes or sends more; none if somebody has to look instead.
@@ -142,13 +131,13 @@ impl<'a> Presence<'a> {
     /// It may also be raised for what happened before.
     pub(crate) fn watch(&self) -> Option<&'a Alarm> {
         let Watch { lookout, number } = self.watch?;
-        lookout.watch(self.stream?, number)
+        lookout.watch(self.stream, number)
     }
 
     /// Ends what [`Presence::watch`] began.
     pub(crate) fn unwatch(&self) {
-        if let (Some(watch), Some(stream)) = (self.watch, self.stream) {
-            watch.lookout.forget(stream);
+        if let Some(watch) = self.watch {
+            watch.lookout.forget(self.stream);
         }
     }
 }

@@ -1,24 +1,65 @@
-//! The receipt of a change.
+//! The receipt of a change, and what it encloses of its delta.
 
 ghost use Rattle.std.specs.Prelude.{◌≡◌};
-ghost use Rattle.ps_desk.specs.Receipts.{merged_of, with_delta};
+ghost use Rattle.ps_desk.specs.Receipts.{merged_of};
 
+use crate::change::share;
 use ps_delta::Delta;
 use ps_session::Merged;
+use std::alloc::Global;
+use std::sync::Wait;
+
+/// What a receipt encloses of a change's delta: the delta itself, or nothing where nobody wants it back.
+pub trait Enclosure: Sized {
+    ghost use Rattle.ps_delta.specs.Deltas.{Entries};
+
+    /// Holds of what is enclosed and the delta.
+    ghost tells: { Self → Entries → Type 0 };
+
+    /// Returns what a receipt encloses of this delta.
+    fn of<V: Wait>(wait: &V, alloc: Global, delta: &Delta) -> Self
+        ensures { tells result delta.now };
+}
+
+/// The delta, with one owner more.
+impl Enclosure for Delta {
+    ghost use Rattle.std.specs.Prelude.{◌≡◌};
+
+    ghost tells = { λ enclosed delta. enclosed ≡ delta };
+
+    fn of<V: Wait>(wait: &V, alloc: Global, delta: &Delta) -> Delta {
+        share(wait, alloc, delta)
+    }
+}
+
+/// Nothing of a change's delta. It takes no time.
+#[derive(Clone, Copy, Debug)]
+pub struct Unenclosed;
+
+impl Enclosure for Unenclosed {
+    ghost use Rattle.std.specs.Prelude.{⊤};
+
+    ghost tells = { λ enclosed delta. ⊤ };
+
+    #[inline(always)]
+    fn of<V: Wait>(_wait: &V, _alloc: Global, _delta: &Delta) -> Unenclosed {
+        Unenclosed
+    }
+}
 
 /// The result of a change: its delta, and where that stands in the history.
 #[derive(Drop)]
-pub struct Receipt {
+pub struct Receipt<E> {
     /// The number of the delta in the history, if it is fresh. Otherwise the length of the history, to which the delta
     /// added nothing new.
     pub number: u64,
-    /// The delta.
-    pub delta: Delta,
+    /// What is enclosed of the delta.
+    pub enclosed: E,
     /// Whether this change appended the delta.
     pub fresh: bool,
 }
 
-/// Where a change stands in the history: its receipt without the delta.
+/// Where a change stands in the history: its receipt, with nothing enclosed yet.
 #[derive(Drop)]
 pub(crate) struct Standing {
     /// the number as [`Receipt`] has it
@@ -28,25 +69,26 @@ pub(crate) struct Standing {
 }
 
 impl Standing {
-    /// Returns the result of a merge that stands there.
-    pub(crate) fn merged(&self) -> Merged
-        ensures { result ≡ merged_of self.now.number self.now.fresh }
-    {
-        if self.fresh {
-            Merged::New(self.number)
-        } else {
-            Merged::Known(self.number)
-        }
-    }
-
-    /// Returns the receipt with this delta.
-    pub(crate) fn with_delta(self, delta: Delta) -> Receipt
-        ensures { result ≡ with_delta self delta }
+    /// Returns the receipt that encloses this.
+    #[inline(always)]
+    pub(crate) fn enclosing<E>(self, enclosed: E) -> Receipt<E>
+        ensures { result ≡ record { number = self.number; enclosed = enclosed; fresh = self.fresh } }
     {
         Receipt {
             number: self.number,
-            delta,
+            enclosed,
             fresh: self.fresh,
         }
+    }
+}
+
+/// Returns the result of a merge that has this receipt.
+pub(crate) fn merged(receipt: &Receipt<Unenclosed>) -> Merged
+    ensures { result ≡ merged_of receipt.now.number receipt.now.fresh }
+{
+    if receipt.fresh {
+        Merged::New(receipt.number)
+    } else {
+        Merged::Known(receipt.number)
     }
 }

@@ -7,13 +7,12 @@ use crate::name::DeskName;
 use crate::pass::Pass;
 use crate::position::Position;
 use crate::presence::Presence;
-use crate::showing::Stream;
+use crate::receipt::{Receipt, Unenclosed, merged};
 use crate::shown_position::ShownPosition;
-use ps_delta::{Change, Delta, Edit};
+use ps_delta::{Delta, Edit};
 use ps_eval::Meter;
 use ps_grid::{Cell, Rect, Refusal};
 use ps_session::{Board, Merged};
-use ps_sheet::edits_are_fresh;
 use ps_value::Value;
 use std::alloc::Global;
 use std::marker::Model;
@@ -31,8 +30,6 @@ pub struct Seat<'a, L: DeskName, W: Wait + Drop, V: Wait> {
     pass: Pass<L>,
     /// the peer, which may stop waiting for a reply
     presence: Presence<'a>,
-    /// how its changes follow each other
-    stream: Stream,
 }
 
 impl<'a, L: DeskName, W: Wait + Drop, V: Wait> Model for Seat<'a, L, W, V> {
@@ -62,7 +59,6 @@ impl<'a, L: DeskName, W: Wait + Drop, V: Wait> Seat<'a, L, W, V> {
             wait,
             pass,
             presence,
-            stream: Stream::new(),
         }
     }
 
@@ -80,26 +76,26 @@ impl<'a, L: DeskName, W: Wait + Drop, V: Wait> Seat<'a, L, W, V> {
         ensures shown { result ≡ self.old.list }
         ensures same { self.new ≡ self.old }
     {
-        self.stream.has_changed = false;
-        match self.pass.shown() {
-            Some(shown) => shown,
-            None => self.desk.show(self.wait, &mut self.pass),
-        }
+        self.desk.show(self.wait, &mut self.pass)
     }
 
-    /// Leaves it to a keeper to show the session's changes before its replies are sent. So changes that directly follow
-    /// each other can be shown together. Without a keeper each change is shown at once.
-    pub fn leave_to_keeper(&mut self)
+    /// Leaves it to a keeper to show the session's changes before its replies are sent, and returns the token for all
+    /// that the session has seen so far. So changes that directly follow each other can be shown together. Without a
+    /// keeper each change is shown at once.
+    ///
+    /// Cost: that of [`Seat::show`].
+    pub fn leave_to_keeper(&mut self) -> ShownPosition<L>
+        ensures shown { result ≡ self.old.list }
         ensures same { self.new ≡ self.old }
     {
-        self.stream.is_kept = true;
+        self.pass.leave_to_keeper(true);
+        self.show()
     }
 
     /// Records that all that the session has seen is shown. No run meets a token of less: the call would wait for ever.
     pub fn note_shown(&mut self, shown: &ShownPosition<L>)
         ensures same { self.new ≡ self.old }
     {
-        self.stream.has_changed = false;
         let _ = self.pass.note_shown(self.wait, shown);
     }
 
@@ -112,7 +108,8 @@ impl<'a, L: DeskName, W: Wait + Drop, V: Wait> Seat<'a, L, W, V> {
         ensures shown { result.1 ≡ result.0.list }
     {
         let shown = self.show();
-        let Seat { pass, .. } = self;
+        let Seat { mut pass, .. } = self;
+        pass.leave_to_keeper(false);
         (pass, shown)
     }
 }
@@ -134,12 +131,15 @@ impl<L: DeskName, W: Wait + Drop, V: Wait + Clock, M: Ledger> Board<Meter<M>>
         edit: Edit,
         meter: &mut Meter<M>,
     ) -> Result<u64, Refusal> {
-        let change = Change::Edit(edit);
         let desk = self.desk;
-        let showing = self.stream.next();
-        let made = desk.change(rt, self.wait, alloc, &mut self.pass, change, meter, showing)?;
-        // for the fact that an edit's delta is never below the state
-        edits_are_fresh();
+        let made: Receipt<Unenclosed> = desk.edit(
+            rt,
+            self.wait,
+            alloc,
+            &mut self.pass,
+            edit,
+            meter,
+        )?;
         Ok(made.number)
     }
 
@@ -154,10 +154,15 @@ impl<L: DeskName, W: Wait + Drop, V: Wait + Clock, M: Ledger> Board<Meter<M>>
         delta: Delta,
         meter: &mut Meter<M>,
     ) -> Result<u64, Refusal> {
-        let change = Change::Delta(delta);
         let desk = self.desk;
-        let showing = self.stream.next();
-        let taken = desk.change(rt, self.wait, alloc, &mut self.pass, change, meter, showing)?;
+        let taken: Receipt<Unenclosed> = desk.receive(
+            rt,
+            self.wait,
+            alloc,
+            &mut self.pass,
+            delta,
+            meter,
+        )?;
         Ok(taken.number)
     }
 
@@ -168,11 +173,16 @@ impl<L: DeskName, W: Wait + Drop, V: Wait + Clock, M: Ledger> Board<Meter<M>>
         delta: Delta,
         meter: &mut Meter<M>,
     ) -> Result<Merged, Refusal> {
-        let change = Change::Merge(delta);
         let desk = self.desk;
-        let showing = self.stream.next();
-        let made = desk.change(rt, self.wait, alloc, &mut self.pass, change, meter, showing)?;
-        Ok(made.merged())
+        let made: Receipt<Unenclosed> = desk.merge(
+            rt,
+            self.wait,
+            alloc,
+            &mut self.pass,
+            delta,
+            meter,
+        )?;
+        Ok(merged(&made))
     }
 
     fn value(&mut self, cell: Cell) -> Result<Value, Refusal> {
@@ -191,17 +201,14 @@ impl<L: DeskName, W: Wait + Drop, V: Wait + Clock, M: Ledger> Board<Meter<M>>
     }
 
     fn entry(&mut self, alloc: Global, cell: Cell) -> Result<Vec<u8>, Refusal> {
-        self.stream.has_changed = false;
         self.desk.entry(self.wait, alloc, &mut self.pass, cell)
     }
 
     fn entries(&mut self, alloc: Global, rect: Rect) -> Result<Vec<u8>, Refusal> {
-        self.stream.has_changed = false;
         self.desk.entries(self.wait, alloc, &mut self.pass, rect)
     }
 
     fn pull(&mut self, alloc: Global, from: u64, most: usize) -> Result<Vec<Delta>, Refusal> {
-        self.stream.has_changed = false;
         self.desk.pull(self.wait, alloc, &mut self.pass, from, most)
     }
 

@@ -19,7 +19,7 @@ impl Showing {
     }
 }
 
-/// The order of a session's changes, looks and replies, as it decides when the next change is shown.
+/// How a session's changes, looks and replies follow each other, which decides when the next change is shown.
 #[derive(Clone, Copy)]
 pub(crate) struct Stream {
     /// Whether a keeper shows what the session changed before its replies are sent.
@@ -37,13 +37,10 @@ impl Stream {
         }
     }
 
-    /// Returns when the next change is shown, and counts it. With a keeper, a change that directly follows another one
-    /// waits.
+    /// Returns when the next change is shown. With a keeper, a change that directly follows another one waits.
     #[inline(always)]
-    pub(crate) fn next(&mut self) -> Showing {
-        let waits = self.is_kept && self.has_changed;
-        self.has_changed = true;
-        if waits {
+    pub(crate) fn next(self) -> Showing {
+        if self.is_kept && self.has_changed {
             Showing::Later
         } else {
             Showing::AtOnce

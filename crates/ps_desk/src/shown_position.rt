@@ -6,7 +6,11 @@ ghost use Rattle.ps_face.specs.Legal.{IsLegal};
 
 use crate::name::DeskName;
 use crate::position::Position;
+use crate::seat::Seat;
+use ps_device::Failed;
 use ps_face::ShownPrefix;
+use ps_session::Keeper;
+use std::alloc::Global;
 use std::marker::Model;
 use std::sync::Wait;
 
@@ -90,5 +94,28 @@ impl<L: DeskName> ShownPosition<L> {
             unreachable!()
         }
         *self = now;
+    }
+}
+
+/// Before a session sends its replies, all that it has seen is shown to everyone, whichever session made it. It is the
+/// keeper of a session at a desk that isn't kept in a file.
+impl<L: DeskName, W: Wait + Drop, V: Wait> Keeper<Seat<'_, L, W, V>> for ShownPosition<L> {
+    ghost use Rattle.std.specs.Prelude.{⊤};
+    ghost use mathlib.Core.List.{IsPrefix};
+
+    ghost covers = { λ shown seat. IsPrefix seat.list shown };
+
+    ghost fits = { λ shown seat. ⊤ };
+
+    ghost can_fail = { ⊥ };
+
+    fn sync(&mut self, _alloc: Global, board: &mut Seat<'_, L, W, V>) -> Result<(), Failed> {
+        let shown = board.show();
+        if !self.has(&shown.position) {
+            // for the fact that the list shown before is a beginning of this one
+            let _ = shown.has(&self.position);
+            *self = shown;
+        }
+        Ok(())
     }
 }

@@ -1,24 +1,22 @@
 //! What lies under the lock of a desk.
 
-ghost use Rattle.std.specs.Prelude.{◌≡◌, ◌⊎◌, ◌↔◌, ◌+◌, ◌-◌, ◌<◌, ◌≤◌, ◌^◌, [], if◌then◌else◌};
-ghost use Rattle.std.specs.Prelude.{drop, get_or, length, take, Err, IfOk, IfErr, OnErr};
+ghost use Rattle.std.specs.Prelude.{◌≡◌, ◌⊎◌, ◌↔◌, ◌<◌, ◌^◌, [], drop, length, take, Err, IfOk, IfErr, OnErr};
 ghost use mathlib.Core.List.{IsPrefix};
 ghost use Rattle.ps_grid.specs.declared.refusal.Refusal.TheVariants.{Memory, Version};
 ghost use Rattle.ps_delta.specs.Deltas.{joined_history};
 ghost use Rattle.ps_csv.specs.Exports.{entry_text, held_in};
-ghost use Rattle.ps_sheet.specs.Prepared.{IsDeltaOf, IsRefusedBy, IsToAppend};
 ghost use Rattle.ps_sheet.specs.Own.{has_own};
 ghost use Rattle.ps_sheet.specs.Sheet.{IsSheet};
 ghost use Rattle.ps_face.specs.Legal.{IsLegal, history_of};
 ghost use Rattle.ps_desk.specs.Copies.{SameIn, holds_in};
-ghost use Rattle.ps_desk.specs.Receipts.{Stands};
+ghost use Rattle.ps_desk.specs.Receipts.{Made, Took, Unmade};
 ghost use Rattle.ps_desk.specs.declared.showing.Showing.TheVariants.{AtOnce};
 
-use crate::change::{finish, make_way, note_shown, share};
+use crate::change::{finish, make_way, note_shown};
 use crate::copied::CopiedContents;
 use crate::name::DeskName;
 use crate::pass::Pass;
-use crate::receipt::Standing;
+use crate::receipt::{Enclosure, Receipt};
 use crate::showing::Showing;
 use crate::shown_position::ShownPosition;
 use ps_content::Content;
@@ -113,6 +111,18 @@ impl<L: DeskName, W: Wait + Drop> DeskState<L, W> {
         ShownPosition::new(&self.copies.shown())
     }
 
+    /// Shows all of the published list to those who look, and has a pass see it.
+    pub(crate) fn look<V: Wait>(&mut self, wait: &V, pass: &mut Pass<L>)
+        ensures copies { self.new ≡ record self.old { shown = self.old.list } }
+        ensures later { IsPrefix pass.old.list self.new.list }
+        ensures legal { IsLegal L.opening self.new.list }
+        ensures pass { pass.new ≡ record pass.old { list = self.new.list } }
+    {
+        let shown = self.show();
+        pass.catch_up(wait, self.front());
+        let _ = pass.note_shown(wait, &shown);
+    }
+
     /// Ends the desk, given the merged shares of all passes, and returns its sheet.
     pub(crate) fn end(self, all: &mut Share<L>) -> Sheet
         requires all { all.old.parts ≡ L.parts }
@@ -131,12 +141,12 @@ impl<L: DeskName, W: Wait + Drop> DeskState<L, W> {
     }
 
     /// Makes a change for the session of a pass, which has then seen all that is published. A change that is shown at
-    /// once shows all waiting changes, too.
+    /// once shows all waiting changes, too. The receipt encloses what is asked for of the change's delta.
     ///
     /// Refused as the sheet refuses the change. Where the change was to be appended, it may also fail when out of
     /// memory. After a refusal nothing is published.
     #[inline(always)]
-    pub(crate) fn make<R: Threads + Sync, V: Wait, M: Ledger>(
+    pub(crate) fn make<R: Threads + Sync, V: Wait, M: Ledger, E: Enclosure + Drop>(
         &mut self,
         rt: &R,
         wait: &V,
@@ -145,22 +155,14 @@ impl<L: DeskName, W: Wait + Drop> DeskState<L, W> {
         change: Change,
         meter: &mut Meter<M>,
         showing: Showing,
-    ) -> Result<Standing, Refusal>
-        ensures later { IsPrefix pass.old.list pass.new.list }
+    ) -> Result<Receipt<E>, Refusal>
         ensures all { pass.new.list ≡ self.new.list }
         ensures shown { showing ≡ AtOnce → self.new.shown ≡ self.new.list }
-        ensures legal { IsLegal L.opening pass.new.list }
-        ensures stands { IfOk result (Stands (λ s d. IsDeltaOf L.replica s change d) L.opening pass.old.list
-            pass.new.list pass.old.seat) }
-        ensures refused { IfErr result (λ e. (e ≡ Memory)
-            ⊎ IsRefusedBy L.replica (joined_history (history_of L.opening pass.new.list)) change e) }
-        ensures asked { IfErr result (λ e. e ≡ Memory
-            → IsToAppend L.replica (joined_history (history_of L.opening pass.new.list)) change) }
         ensures kept { OnErr result (self.new.list ≡ self.old.list) }
-        ensures counted { IfOk result (λ r. pass.new.appended
-            ≡ pass.old.appended + (if r.fresh then 1 else 0)) }
-        ensures uncounted { OnErr result (pass.new.appended ≡ pass.old.appended) }
-        ensures seat { (pass.new.seat ≡ pass.old.seat) × (pass.new.enters ≡ pass.old.enters) }
+        ensures took { Took L.opening pass.old pass.new }
+        ensures made { IfOk result (λ r. Made E.tells L.replica L.opening change pass.old pass.new
+            r.number r.enclosed r.fresh) }
+        ensures unmade { IfErr result (Unmade L.replica L.opening change pass.old pass.new) }
     {
         let DeskState {
             sheet,
@@ -172,20 +174,13 @@ impl<L: DeskName, W: Wait + Drop> DeskState<L, W> {
         let _report = sheet.stage(rt, &Open, alloc, change, meter)?;
         // for the fact that it is a delta
         let _ = sheet.delta().parts();
-        let standing = finish(wait, alloc, sheet, copies, book, pass, showing);
+        let enclosed = E::of(wait, alloc, sheet.delta());
+        let done = finish(wait, alloc, sheet, copies, book, pass, showing);
         note_shown(wait, copies, pass, showing);
         // for the fact that the list is legal
         let _ = copies.front();
-        standing
-    }
-
-    /// The delta that has this number in the history, with one owner more.
-    pub(crate) fn delta_at<V: Wait>(&self, wait: &V, alloc: Global, number: u64) -> Delta
-        requires some { 1 ≤ number }
-        requires there { number ≤ length (history_of L.opening self.now.list) }
-        ensures { result ≡ get_or (history_of L.opening self.now.list) (number - 1) [] }
-    {
-        share(wait, alloc, &self.sheet.history()[number as usize - 1])
+        let standing = done?;
+        Ok(standing.enclosing(enclosed))
     }
 
     /// Returns the deltas of the history after the number `from`, in order, at most `at_most` of them.

@@ -197,7 +197,6 @@ impl<L: DeskName, W: Wait + Drop, D: Device + Drop, V: Wait, U: Wait> Keeper<Sea
 
     fn sync(&mut self, alloc: Global, board: &mut Seat<'_, L, W, U>) -> Result<(), Failed> {
         self.keep(alloc, &board.position())?;
-        board.leave_to_keeper();
         board.note_shown(self.kept.shown());
         Ok(())
     }

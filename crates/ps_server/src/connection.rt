@@ -8,7 +8,7 @@ ghost use Rattle.ps_session.specs.Transcript.{Answered, Stopped, Transcribed};
 ghost use Rattle.ps_desk.specs.Seats.{SeatLines};
 ghost use Rattle.ps_server.specs.Sessions.{IsAttended};
 
-use ps_desk::{Desk, DeskName, Pass, Presence, Publisher, Seat, ShownPosition};
+use ps_desk::{Desk, DeskName, Pass, Presence, Seat, ShownPosition};
 use ps_device::{Sink, Source};
 use ps_eval::Meter;
 use ps_keep::Device;
@@ -103,7 +103,7 @@ pub fn attend_lines<
         presence,
     } = at;
     let mut seat = Seat::new(desk, resources.threads, pass, presence);
-    let mut publisher = Publisher::new(&mut seat);
+    let mut shown = seat.leave_to_keeper();
     let ended = converse::<
         R,
         S,
@@ -112,7 +112,7 @@ pub fn attend_lines<
         Unwatched,
         HeldOutput<K, N>,
         HeldBack,
-        Publisher<L>,
+        ShownPosition<L>,
     >(
         resources,
         source,
@@ -120,12 +120,12 @@ pub fn attend_lines<
         &mut seat,
         meter,
         &mut Unwatched,
-        &mut publisher,
+        &mut shown,
     );
     let (pass, _) = seat.leave();
     Attended {
         pass,
-        covered: publisher.leave(),
+        covered: shown,
         ended,
     }
 }
@@ -182,6 +182,7 @@ pub fn attend_kept<
         keeper,
     } = at;
     let mut seat = Seat::new(desk, resources.threads, pass, presence);
+    let _ = seat.leave_to_keeper();
     let mut own = SeatKeeper::new(keeper, desk, resources.threads);
     let ended = converse::<
         R,

@@ -5,5 +5,4 @@ use Rattle.ps_desk.proofs.change.tell.Goals as goal
 
 pub publish-requires-clause-legal : goal.publish-requires-clause-legal
 publish-requires-clause-legal g c =
-    subst (λ (h : List Entries). Follows h c.patch_of_one-patch.result) c.requires.history
-    c.patch_of_one-patch.ensures.follows
+    subst (λ (h : List Entries). Follows h c.in_ok-patch.patch) c.requires.history c.in_ok-patch.ensures.follows

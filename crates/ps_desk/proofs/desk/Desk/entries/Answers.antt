@@ -3,7 +3,6 @@ use Rattle.std.specs.Prelude.{IfOk}
 use Rattle.ps_csv.specs.Exports.{exported_entries, held_in}
 use Rattle.ps_face.specs.Legal.{history_of}
 use Rattle.ps_face.specs.Published.{Published}
-use Rattle.ps_face.specs.Seen.{Told}
 use Rattle.ps_face.specs.declared.patch.Note.{Note}
 use Rattle.ps_desk.specs.Copies.{holds_in}
 use Rattle.ps_desk.specs.Passes.{PassView}
@@ -14,14 +13,10 @@ pub returns-clause-text : goal.returns-clause-text
 returns-clause-text g c =
     let h = g.L.Named.opening in
     let a = c.args.rect in
-    let seen : c.note_shown.new.self.list ≡ c.front.result.now.list =
-    ap (λ (p : PassView). p.list) c.note_shown.ensures.same ∙ ap (λ (p : PassView). p.list) c.catch_up.ensures.pass in
-    let front : c.front.result.now.list ≡ c.deref.result.now.list = ap (λ (t : Told). t.list) c.front.ensures.front in
-    let locked : c.deref-2.result.now.list ≡ c.note_shown.new.self.list =
-    ap (λ (p : Published). p.list) c.deref-2.ensures ∙ sym (ap (λ (p : Published). p.list) c.deref.ensures)
-    ∙ sym (seen ∙ front) in
+    let locked : c.deref.result.now.list ≡ c.look.new.pass.list =
+    ap (λ (p : Published). p.list) c.deref.ensures ∙ sym (ap (λ (p : PassView). p.list) c.look.ensures.pass) in
     subst (λ (z : List ℕ). IfOk c.entries_text.result (λ t. t.items ≡ z))
-    (entries_same (holds_in c.in_ok-copied.field-0) (held_in (history_of h c.deref-2.result.now.list)) a
+    (entries_same (holds_in c.in_ok-copied.field-0) (held_in (history_of h c.deref.result.now.list)) a
     c.area.ensures.in_grid c.in_ok-copied.ensures.same
     ∙ ap (λ (l : List Note). exported_entries (held_in (history_of h l)) a) locked)
     c.entries_text.ensures.text
