@@ -12,7 +12,7 @@ _sheet() {
         serve) words='--port --sessions --seats --wait --idle --explain --keep --title --workers --replica --squash -h --help' ;;
         sync) words='--from --to --explain -h --help' ;;
         join) words='--from --to --with --lines --once --check --explain -h --help' ;;
-        follow) words='--from --until-now --every --explain -h --help' ;;
+        follow) words='--from --after --until-now --every --explain -h --help' ;;
         talk) words='--to --explain -h --help' ;;
         squash) words='--keep --until --without -h --help' ;;
         help) words='run table serve sync join follow talk squash' ;;

@@ -34,6 +34,19 @@ class Peers(Following):
         self.assertEqual(peer.asked, ["pull 0 16", "pull 16 16", "pull 17 16", "wait 17", "pull 17 16", "wait 17",
                                       "pull 17 16", "pull 20 16"])
 
+    def test_it_begins_after_the_first_changes(self):
+        for after, last in ((0, 1), (3, 4), (1_000_000_000, 1_000_000_016)):
+            with self.subTest(after=after):
+                peer = self.peer(f"delta {last} [1]\n".encode(), f"end {last}\n".encode())
+                self.assertEqual(follow(peer.port, "--after", str(after), "--until-now"), Ended(0, lines("push [1]")))
+                peer.close()
+                self.assertEqual(peer.asked, [f"pull {after} 16", f"pull {last} 16"])
+
+    def test_a_delta_that_is_passed_over_is_not_due(self):
+        for reply in (b"delta 3 [1]\n", b"delta 4 [1]\n", b"end 3\n", b"end 5\n"):
+            with self.subTest(reply=reply):
+                self.assertEqual(follow(self.peer(reply).port, "--after", "4"), UNEXPECTED)
+
     def test_until_now_it_ends_at_the_first_end(self):
         peer = self.peer(b"delta 16 [1]\n", b"end 16\n", b"delta 17 [2]\n")
         self.assertEqual(follow(peer.port, "--until-now"), Ended(0, lines("push [1]")))
@@ -105,6 +118,21 @@ class Replicas(Following):
                 self.assertEqual(follower.stdout.readline(), f'push [["A{n}",[1,1,"{n}"],[],[]]]\n'.encode())
             client.leave()
 
+    def test_a_file_goes_on_where_it_was(self):
+        with serving(4) as server:
+            client = server.client()
+            for n in range(1, 6):
+                client.ask(f"set A{n} {n}")
+            whole = follow(server.port, "--after", "2", "--until-now")
+            self.assertEqual(whole.status, 0)
+            self.assertEqual(whole.output.count(b"push "), 1)
+            for n in range(1, 6):
+                self.assertEqual(f'["A{n}",'.encode() in whole.output, n > 2)
+            # all of it is passed over, and a number that there isn't is refused
+            self.assertEqual(follow(server.port, "--after", "5", "--until-now"), Ended(0))
+            self.assertEqual(follow(server.port, "--after", "6", "--until-now"), Ended(3, b"", lines("err 17 version")))
+            client.leave()
+
     @contextlib.contextmanager
     def followed(self, port, *words):
         """Following a port, under way."""
@@ -135,7 +163,7 @@ class Replicas(Following):
 
 
 class Rings(Following):
-    """Replicas in a ring, each of which is handed what the one before it has and gets, while clients edit at all."""
+    """Replicas in a ring, each with what the one before it has and gets, while clients edit at all."""
 
     def ring(self, count, clients, changes):
         with contextlib.ExitStack() as stack:

@@ -48,7 +48,7 @@ class Fakes(ProgramTest):
         return peer
 
     def joined(self, first, second):
-        """How these peers were joined once, both of which are done with it then."""
+        """How these peers were joined once; both are done with it then."""
         ended = joined_once(first.port, second.port)
         for peer in (first, second):
             peer.close()
@@ -252,7 +252,7 @@ def in_step(first, second):
 
 
 def differ(count, *names):
-    """How comparing two ends that differ at so many cells, the first of which have these names."""
+    """How comparing two ends that differ at so many cells, the first with these names."""
     return Ended(3, lines(" ".join(["differ", str(count), *names])))
 
 
@@ -272,7 +272,7 @@ class Checked(Fakes):
     """What `--check` asks of each, and says of both."""
 
     def compared(self, first, second):
-        """How these peers were compared, both of which are done with it then."""
+        """How these peers were compared; both are done with it then."""
         ended = checked(first.port, second.port)
         for peer in (first, second):
             peer.close()
@@ -286,7 +286,7 @@ class Checked(Fakes):
             self.assertEqual([peer.asked for peer in peers], [[*first], [*second]])
 
     def assert_fails(self, ended, first, second):
-        """Comparing peers with these replies ends so, and none of them is asked but for what it has."""
+        """Comparing peers with these replies ends so, and each of them is asked for what it has alone."""
         with self.subTest(first=first, second=second):
             peers = [self.peer(*replies) for replies in (first, second)]
             self.assertEqual(self.compared(*peers), ended)
@@ -448,12 +448,12 @@ class Joining:
 
 
 def is_lost(port):
-    """What is told of a port whose connection ended."""
+    """What is said of a port whose connection ended."""
     return f"port {port}: the connection ended"
 
 
 def has_nobody(port):
-    """What is told of a port on which nobody listens."""
+    """What is said of a port on which nobody listens."""
     return f"port {port}: nobody listens on it; sheet serve --port {port} would"
 
 
@@ -751,7 +751,7 @@ class Replicas(ProgramTest):
                 joining(first.port, second.port) as join:
             self.assertEqual(join.told(), join.joined)
             for server in (first, second):
-                # (who comes later and says nothing more is sent away)
+                # (one that comes later and says nothing more is sent away)
                 silent = server.client()
                 silent.send(b"get A1\n")
                 self.assertEqual(silent.told(), lines("val "))

@@ -1,5 +1,5 @@
 -- What the commands begin with, and what they write.
-use Rattle.std.specs.Prelude.{◌≡◌, ◌⊎◌, ◌==◌, ◌∷◌, ◌++◌, ℕ, zero, suc, Bool, false, List, [], Option, None, Some}
+use Rattle.std.specs.Prelude.{◌≡◌, ◌⊎◌, ◌==◌, ◌∷◌, ◌++◌, ℕ, zero, suc, Bool, false, true, List, [], Option, None, Some}
 use Rattle.std.specs.Prelude.{if◌then◌else◌, codes, decimal}
 use Rattle.ps_grid.specs.Rectangle.{Area}
 use Rattle.ps_delta.specs.Deltas.{joined_history}
@@ -85,6 +85,33 @@ pub record IsJoinFault (fault : ProgramFault) : Type 0 where
   pub to1 : PeerView
   pub is : fault ≡ sync_fault cause
   pub stopped : IsStopped false end from0 from1 to0 to1
+
+-- the first of two peers is behind an input that has these bytes, and an output that has those, or else the second is
+abbrev pub IsBehind : Bool → Option (List ℕ) → Option (List ℕ) → PeerView → PeerView → Type 0
+IsBehind true to_come written from to = (from.to_come ≡ to_come) × (from.asked ≡ written)
+IsBehind false to_come written from to = (to.to_come ≡ to_come) × (to.asked ≡ written)
+
+-- all that each of two such peers had was merged at the other
+abbrev pub ArePiped : Bool → Option (List ℕ) → Option (List ℕ) → Type 0
+ArePiped is_first to_come written = (from0 : PeerView) × (from1 : PeerView) × (to0 : PeerView) × (to1 : PeerView)
+    × IsBehind is_first to_come written from0 to0 × IsJoined from0 from1 to0 to1
+
+-- two such peers were joining once, until one of them ended it with this fault
+pub record IsPipeFault (is_first : Bool) (to_come written : Option (List ℕ)) (fault : ProgramFault) : Type 0 where
+  pub end : End
+  pub cause : SyncFault
+  pub from0 : PeerView
+  pub from1 : PeerView
+  pub to0 : PeerView
+  pub to1 : PeerView
+  pub behind : IsBehind is_first to_come written from0 to0
+  pub is : fault ≡ sync_fault cause
+  pub stopped : IsStopped false end from0 from1 to0 to1
+
+-- .. they were joining on and on, until this end ended it
+abbrev pub IsPipeStopped : Bool → Option (List ℕ) → Option (List ℕ) → End → Type 0
+IsPipeStopped is_first to_come written end = (from0 : PeerView) × (from1 : PeerView) × (to0 : PeerView)
+    × (to1 : PeerView) × IsBehind is_first to_come written from0 to0 × IsStopped true end from0 from1 to0 to1
 
 -- what `join` with `--once` writes at the end
 abbrev pub joined_text : List ℕ

@@ -15,10 +15,10 @@ use std::marker::Brand;
 use std::net::{Net, TcpStream};
 use std::sync::ledger::Ledger;
 
-/// Writes all changes of the replica at a port of this machine as change lines.
+/// Writes the changes of the replica at a port of this machine as change lines.
 ///
-/// It writes those that the replica has, and then each new one, until the replica closes the connection. With
-/// `until_now` it ends once the replica has no more. It waits for a change without polling.
+/// It writes those that the replica has after the first `after` of `options`, and then each new one, until the replica
+/// closes the connection. With `until_now` it ends once the replica has no more. It waits for a change without polling.
 ///
 /// # Errors
 ///
@@ -34,41 +34,49 @@ pub fn follow_on<R: Net<Stream = TcpStream>, K: Sink>(
     out: &mut K,
 ) -> Result<(), ProgramFault>
     ensures all { OnOk result (options.until_now ≡ true → (first : PeerView) × (last : PeerView)
-        × IsAll (options.until_now ≡ false) first last (K.contents out.old) (K.contents out.new)) }
+        × IsAll (options.until_now ≡ false) options.after first last (K.contents out.old) (K.contents out.new)) }
     ensures left { OnOk result (options.until_now ≡ false → (first : PeerView) × (last : PeerView)
-        × IsUntilClosed (options.until_now ≡ false) first last (K.contents out.old) (K.contents out.new)) }
+        × IsUntilClosed (options.until_now ≡ false) options.after first last (K.contents out.old)
+        (K.contents out.new)) }
     ensures halted { IfErr result (λ fault. (out.new ≡ out.old) ⊎ ((first : PeerView) × (last : PeerView)
-        × IsHalted (options.until_now ≡ false) (K.failures out.old < K.failures out.new) first last
-        (K.contents out.old) (K.contents out.new))) }
+        × IsHalted (options.until_now ≡ false) (K.failures out.old < K.failures out.new) options.after first
+        last (K.contents out.old) (K.contents out.new))) }
     ensures flushed { K.waiting out.old ≡ []
         → (K.waiting out.new ≡ []) ⊎ (K.failures out.old < K.failures out.new) }
     ensures calm { OnOk result (K.failures out.new ≡ K.failures out.old) }
 {
     let stream = connect(rt, options.from)?;
-    follow_stream::<K, Brand, Brand>(alloc, PeerStream::new(&stream), options.until_now, out)
+    follow_stream::<K, Brand, Brand>(
+        alloc,
+        PeerStream::new(&stream),
+        u64::from(options.after),
+        options.until_now,
+        out,
+    )
 }
 
-/// Follows the peer of a connection.
+/// Follows the peer of a connection after so many changes.
 fn follow_stream<K: Sink, I: Ledger, O: Ledger>(
     alloc: Global,
     stream: PeerStream<'_>,
+    after: u64,
     until_now: bool,
     out: &mut K,
 ) -> Result<(), ProgramFault>
     requires input { IsBlankOf stream.input I.name I.parts }
     requires output { IsBlankOf stream.output O.name O.parts }
     ensures all { OnOk result (until_now ≡ true → (first : PeerView) × (last : PeerView)
-        × IsAll (until_now ≡ false) first last (K.contents out.old) (K.contents out.new)) }
+        × IsAll (until_now ≡ false) after first last (K.contents out.old) (K.contents out.new)) }
     ensures left { OnOk result (until_now ≡ false → (first : PeerView) × (last : PeerView)
-        × IsUntilClosed (until_now ≡ false) first last (K.contents out.old) (K.contents out.new)) }
+        × IsUntilClosed (until_now ≡ false) after first last (K.contents out.old) (K.contents out.new)) }
     ensures halted { IfErr result (λ fault. (out.new ≡ out.old) ⊎ ((first : PeerView) × (last : PeerView)
-        × IsHalted (until_now ≡ false) (K.failures out.old < K.failures out.new) first last
+        × IsHalted (until_now ≡ false) (K.failures out.old < K.failures out.new) after first last
         (K.contents out.old) (K.contents out.new))) }
     ensures flushed { K.waiting out.old ≡ []
         → (K.waiting out.new ≡ []) ⊎ (K.failures out.old < K.failures out.new) }
     ensures calm { OnOk result (K.failures out.new ≡ K.failures out.old) }
 {
     let mut from = peer_of::<I, O>(alloc, stream)?;
-    follow(alloc, &mut from, out, until_now)?;
+    follow(alloc, &mut from, out, after, until_now)?;
     Ok(())
 }

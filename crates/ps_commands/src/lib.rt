@@ -12,7 +12,8 @@
 //! - [`serve`]: the closed sheet is an empty one with what its sessions appended, as `ps_server` defines it.
 //! - [`serve_kept`]: at its end the journal has all of the sheet.
 //! - [`sync_on`], [`follow_on`] and [`talk_on`]: as `sync`, `follow` and `ask_lines` of `ps_peers`, at ports.
-//! - [`join_once_on`] and [`join_on`]: as `join_once` and `join` of `ps_join`, at ports.
+//! - [`join_once_on`], [`join_on`] and [`join_pipe_on`]: as `join_once` and `join` of `ps_join`, at ports, or at a port
+//!   and an input and an output.
 //! - [`relay_on`]: as `relay` of `ps_join`, at a port.
 //! - [`check_on`]: as `compare` of `ps_step`, at ports. What was written says which cells differ.
 //! - [`squash_on`] and [`squash_part_on`]: what was written is what `ps_squash` defines for the lines.
@@ -43,6 +44,7 @@ mod listening;
 mod lookout;
 mod notice;
 mod peers;
+mod pipe;
 mod poller;
 mod port;
 mod progress;
@@ -64,6 +66,7 @@ pub use kept::{
     FileNotTaken, KeptName, KeptTrouble, OpenedFile, keep_sheet, lost_file, open_kept_sheet,
 };
 pub use listening::{serve, serve_kept};
+pub use pipe::join_pipe_on;
 pub use port::{PageAddress, PortFault, PortTrouble, port_fault};
 pub use relay::{Input, relay_on};
 pub use run::{answer_kept, answer_lines, open_sheet};

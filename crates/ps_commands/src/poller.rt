@@ -78,6 +78,15 @@ impl Poller {
         !self.listen(self.input, INPUT) || self.has_input(Duration::ZERO)
     }
 
+    /// Sleeps until the input or the connection has bytes or has ended, for at most 30 seconds, and returns whether the
+    /// input has. An input that can't be reported counts as if it had, at once.
+    pub(crate) fn is_input_first(&mut self) -> bool {
+        if !self.listen(self.input, INPUT) || !self.listen(self.server, SERVER) {
+            return true;
+        }
+        self.has_input(Duration::from_secs(LONGEST_SLEEP))
+    }
+
     /// Sleeps until the input or the connection has bytes or has ended, for at most 30 seconds.
     pub(crate) fn sleep(&mut self) {
         if self.listen(self.input, INPUT) && self.listen(self.server, SERVER) {

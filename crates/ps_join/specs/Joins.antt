@@ -134,7 +134,7 @@ abbrev pub IsBrokenAt : End → Type 0 → Type 0 → Type 0 → Type 0 → Type
 IsBrokenAt ends.From from_broken from_idle to_broken to_idle = from_broken × to_idle
 IsBrokenAt ends.To from_broken from_idle to_broken to_idle = to_broken × from_idle
 
--- STOPPED: they were joining up to some reply of each, but for at most one group in hand, which wasn't merged at the
+-- STOPPED: they were joining up to some reply of each, except for at most one group in hand, which wasn't merged at the
 -- other peer, or whose merge had no due reply. It broke off at this end
 pub record IsStopped (waits : Bool) (end : End) (from0 from1 to0 to1 : PeerView) : Type 0 where
   pub from_middle : PeerView

@@ -16,7 +16,7 @@ use Rattle.ps_peers.specs.Exchange.{IsGroup, TellsEnd, TellsNews, pull_most, wai
 use Rattle.ps_peers.specs.Peers.{IsReplied, PeerView, PutsSome}
 use Rattle.ps_peers.specs.declared.peer_pull.SyncFault.TheVariants.{Refused}
 
--- how far a relay has come
+-- the progress of a relay
 pub record Course : Type 0 where
   -- each change of the server up to this number was written, or came in
   pub position : ℕ
@@ -63,7 +63,7 @@ Passes old new =
     (new ≡ old) ⊎ (Contains old.numbers (old.position + 1) × (new ≡ moved_to old (old.position + 1)))
 
 -- the reply to a merge: the change has this number, which is none that was passed; or all was known; or it is refused,
--- and not for want of a seat
+-- and not since all seats are taken
 abbrev pub IsTaken : ℕ → List ℕ → Brought → Type 0
 IsTaken position reply (broughts.Anew number) =
     (number_after reply (codes "ok ") ≡ Some number) × (position < number)
@@ -115,7 +115,7 @@ pub record RelayView : Type 0 where
 abbrev pub seen : PeerView → Option (List ℕ) → Option (List ℕ) → RelayView
 seen server to_come contents = record { server = server; to_come = to_come; contents = contents }
 
--- all that was asked, and replied, came to this; what was merged is what came in, and what was told was written
+-- all that was asked, and replied, came to this; what was merged is what came in, and what was reported was written
 pub record HasAsked (first last : RelayView) (course : Course) : Type 0 where
   pub replies : List (List ℕ)
   pub each : All HasNoFeed replies
@@ -139,7 +139,7 @@ pub record IsRelayed (first last : RelayView) : Type 0 where
   pub through : TellsEnd (without_return last.server.line) course.position
   pub ended : IsAtEnd last.to_come
 
--- what may be asked next, where this delta has come in
+-- what may be asked next, after this delta came in
 abbrev pub MayAskNext : Course → List ℕ → List ℕ → Type 0
 MayAskNext course held request =
     ((most : ℕ) × (request ≡ pull_most course.position most))

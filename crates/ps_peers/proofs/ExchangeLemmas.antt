@@ -27,12 +27,12 @@ pub replied_takes : (request : List ℕ) (old new : PeerView) → IsReplied requ
 replied_takes request old new r =
     record { part = new.line; feed = 10 ∷ []; one = r.one; ends = inr refl; taken = r.read }
 
-module _ (waits : Type 0) (first mid last : PeerView) (written before contents : Option (List ℕ)) (version : ℕ)
-    (f : IsFollowed waits first mid written before version) where
+module _ (waits : Type 0) (start : ℕ) (first mid last : PeerView) (written before contents : Option (List ℕ))
+    (version : ℕ) (f : IsFollowed waits start first mid written before version) where
   -- one reply more, which was handed on
   pub followed_more : (text : List ℕ) (next : ℕ) → IsReplied (pull_text version) mid last
       → HandsOver version last.line text next → Appends before contents text
-      → IsFollowed waits first last written contents next
+      → IsFollowed waits start first last written contents next
   followed_more text next r hands sent = record {
     replies = f.replies ++ last.line ∷ [];
     each = All-push HasNoFeed f.replies last.line f.each r.one;
@@ -40,24 +40,24 @@ module _ (waits : Type 0) (first mid last : PeerView) (written before contents :
         (stream-rest f.replies [] (last.line ++ 10 ∷ []) ∙ stream-push f.replies last.line)
         (Consumes-append _ _ _ (stream_of f.replies []) (last.line ++ 10 ∷ []) f.read r.read);
     requests = f.requests ++ pull_text version;
-    asks = Run-push (Asks waits) f.replies 0 version next f.requests (pull_text version) last.line f.asks
+    asks = Run-push (Asks waits) f.replies start version next f.requests (pull_text version) last.line f.asks
         (inl (refl, (text, hands)));
     asked = Appends-append _ _ _ f.requests (pull_text version) f.asked r.asked;
     text = f.text ++ text;
-    hands = Run-push (HandsOn waits) f.replies 0 version next f.text text last.line f.hands (inl hands);
+    hands = Run-push (HandsOn waits) f.replies start version next f.text text last.line f.hands (inl hands);
     sent = Appends-append _ _ _ f.text text f.sent sent;
   }
 
   -- the end is handed on as nothing
   pub followed_end : IsReplied (pull_text version) mid last → TellsEnd (without_return last.line) version
-      → before ≡ contents → IsFollowed waits first last written contents version
+      → before ≡ contents → IsFollowed waits start first last written contents version
   followed_end r ended same =
       followed_more [] version r (inr (ended, refl, refl)) (subst (λ known. Appends before known []) same
       (Appends-nil before))
 
   -- the reply to a wait is handed on as nothing
   pub followed_wait : waits → IsReplied (wait_text version) mid last → TellsNews version (without_return last.line)
-      → IsFollowed waits first last written before version
+      → IsFollowed waits start first last written before version
   followed_wait may r news = record {
     replies = f.replies ++ last.line ∷ [];
     each = All-push HasNoFeed f.replies last.line f.each r.one;
@@ -65,18 +65,18 @@ module _ (waits : Type 0) (first mid last : PeerView) (written before contents :
         (stream-rest f.replies [] (last.line ++ 10 ∷ []) ∙ stream-push f.replies last.line)
         (Consumes-append _ _ _ (stream_of f.replies []) (last.line ++ 10 ∷ []) f.read r.read);
     requests = f.requests ++ wait_text version;
-    asks = Run-push (Asks waits) f.replies 0 version version f.requests (wait_text version) last.line f.asks
+    asks = Run-push (Asks waits) f.replies start version version f.requests (wait_text version) last.line f.asks
         (inr (may, refl, ([], (news, refl, refl))));
     asked = Appends-append _ _ _ f.requests (wait_text version) f.asked r.asked;
     text = f.text ++ [];
-    hands = Run-push (HandsOn waits) f.replies 0 version version f.text [] last.line f.hands
+    hands = Run-push (HandsOn waits) f.replies start version version f.text [] last.line f.hands
         (inr (may, (news, refl, refl)));
     sent = Appends-append _ _ _ f.text [] f.sent (Appends-nil before);
   }
 
   -- what came then was not handed on
   pub halted_before : (failed : Type 0) → before ≡ contents → TakesLine mid.to_come last.to_come
-      → IsHalted waits failed first last written contents
+      → IsHalted waits failed start first last written contents
   halted_before failed same taken = record {
     middle = mid;
     before = before;
@@ -89,7 +89,7 @@ module _ (waits : Type 0) (first mid last : PeerView) (written before contents :
   -- .. or was cut
   pub halted_cut : (failed : Type 0) (text : List ℕ) (next : ℕ) → failed → IsReplied (pull_text version) mid last
       → HandsOver version last.line text next
-      → PutsSome before contents text → IsHalted waits failed first last written contents
+      → PutsSome before contents text → IsHalted waits failed start first last written contents
   halted_cut failed text next fails r hands cut = record {
     middle = mid;
     before = before;

@@ -54,7 +54,7 @@ abbrev pub no_seat : List ℕ
 no_seat = codes "err 21 seat"
 
 -- how many lines follow the first line of the reply to a line; none where it isn't due. A refusal is due to each line,
--- but for the one that ends the session
+-- except to the one that ends the session
 abbrev pub lines_due : List ℕ → List ℕ → Option ℕ
 lines_due line first =
     cond (bytes_eq first no_seat) None

@@ -1,5 +1,5 @@
 -- What one replica hands to another, or to whoever reads on: the peer's replies to one request after the other, and
--- the lines that they are handed on as.
+-- the lines that are written of them.
 use Rattle.std.specs.Prelude.{◌≡◌, ◌⊎◌, ◌<◌, ◌≤◌, ⊤, ℕ, List, [], ◌∷◌, ◌++◌, Option, Some, codes, decimal}
 use Rattle.std.specs.Prelude.{Bool, false, true, drop, length, string_bytes}
 use Rattle.std.specs.Io.KnownBytes.{Appends, Consumes}
@@ -77,30 +77,30 @@ IsDue version reply (dues.Group last start) = IsGroup version reply last (drop s
 IsDue version reply dues.End = TellsEnd reply version
 IsDue version reply dues.Closed = ⊥
 
--- what a pull after `version` of at most so many came to: a reply that is due, or the peer closed in the place of one
+-- what a pull after `version` of at most so many came to: a reply that is due, or the peer closed instead of one
 abbrev pub IsNext : ℕ → ℕ → PeerView → PeerView → Due → Type 0
 IsNext version most old new dues.Closed = IsClosed (pull_most version most) old new
 IsNext version most old new due =
     IsReplied (pull_most version most) old new × IsDue version (without_return new.line) due
 
--- what a wait for more than `version` changes came to: it ended, or the peer closed in the place of a reply
+-- what a wait for more than `version` changes came to: it ended, or the peer closed instead of a reply
 abbrev pub IsAwaited : ℕ → PeerView → PeerView → Bool → Type 0
 IsAwaited version old new true =
     IsReplied (wait_text version) old new × TellsNews version (without_return new.line)
 IsAwaited version old new false = IsClosed (wait_text version) old new
 
--- what a line that replies to a pull after `version` is handed on as, and the version to ask after next
+-- what is written of a line that replies to a pull after `version`, and the version to ask after next
 abbrev pub HandsOver : Answering ℕ
 HandsOver version line text next =
     ((delta : List ℕ) × IsGroup version (without_return line) next delta × (text ≡ push_text delta))
     ⊎ (TellsEnd (without_return line) version × (text ≡ []) × (next ≡ version))
 
--- what a line that replies to a wait is handed on as: nothing
+-- what a line that replies to a wait writes: nothing
 abbrev pub HandsNothing : Answering ℕ
 HandsNothing version line text next =
     TellsNews version (without_return line) × (text ≡ []) × (next ≡ version)
 
--- what a line that replies to a pull, or to a wait where there are `waits`, is handed on as
+-- what is written of a line that replies to a pull, or to a wait where there are `waits`
 abbrev pub HandsOn : Type 0 → Answering ℕ
 HandsOn waits version line text next =
     HandsOver version line text next ⊎ (waits × HandsNothing version line text next)
@@ -111,35 +111,37 @@ Asks waits version line text next =
     ((text ≡ pull_text version) × ((handed : List ℕ) × HandsOver version line handed next))
     ⊎ (waits × (text ≡ wait_text version) × ((handed : List ℕ) × HandsNothing version line handed next))
 
--- FOLLOWED: the peer replied to one pull after the other, the first after version 0, each further one after the version
--- of the reply before, and where there are `waits` to waits between them; and what was written is just what the replies
--- are handed on as, in order, each once
-pub record IsFollowed (waits : Type 0) (first last : PeerView) (written contents : Option (List ℕ)) (version : ℕ)
-    : Type 0 where
+-- FOLLOWED: the peer replied to one pull after the other, the first after the version `start`, each further one after
+-- the version of the reply before, and where there are `waits` to waits between them; and what was written is just what
+-- the replies make, in order, each once
+pub record IsFollowed (waits : Type 0) (start : ℕ) (first last : PeerView) (written contents : Option (List ℕ))
+    (version : ℕ) : Type 0 where
   pub replies : List (List ℕ)
   pub each : All HasNoFeed replies
   pub read : Consumes first.to_come last.to_come (stream_of replies [])
   pub requests : List ℕ
-  pub asks : Run (Asks waits) 0 replies requests version
+  pub asks : Run (Asks waits) start replies requests version
   pub asked : Appends first.asked last.asked requests
   pub text : List ℕ
-  pub hands : Run (HandsOn waits) 0 replies text version
+  pub hands : Run (HandsOn waits) start replies text version
   pub sent : Appends written contents text
 
 -- .. until the peer had no more: its last reply is the end
-pub record IsAll (waits : Type 0) (first last : PeerView) (written contents : Option (List ℕ)) : Type 0 where
+pub record IsAll (waits : Type 0) (start : ℕ) (first last : PeerView) (written contents : Option (List ℕ))
+    : Type 0 where
   pub version : ℕ
-  pub followed : IsFollowed waits first last written contents version
+  pub followed : IsFollowed waits start first last written contents version
   pub ended : TellsEnd (without_return last.line) version
 
--- .. until the peer closed: it ended its replies after one of them, in the place of one more
-pub record IsUntilClosed (waits : Type 0) (first last : PeerView) (written contents : Option (List ℕ)) : Type 0 where
+-- .. until the peer closed: it ended its replies after one of them, instead of one more
+pub record IsUntilClosed (waits : Type 0) (start : ℕ) (first last : PeerView) (written contents : Option (List ℕ))
+    : Type 0 where
   pub middle : PeerView
   pub version : ℕ
-  pub followed : IsFollowed waits first middle written contents version
+  pub followed : IsFollowed waits start first middle written contents version
   pub closed : IsClosed (pull_text version) middle last ⊎ (waits × IsClosed (wait_text version) middle last)
 
--- a line that was due was read, and what it is handed on as was cut
+-- a line that was due was read, and what is written of it was cut
 pub record IsCut (middle last : PeerView) (version : ℕ) (before contents : Option (List ℕ)) : Type 0 where
   pub one : HasNoFeed last.line
   pub read : Consumes middle.to_come last.to_come (last.line ++ 10 ∷ [])
@@ -150,10 +152,11 @@ pub record IsCut (middle last : PeerView) (version : ℕ) (before contents : Opt
 
 -- HALTED: it was followed up to some reply. Of what came then no more than a line was read, and none of it was handed
 -- on, or, where that `failed`, a beginning
-pub record IsHalted (waits failed : Type 0) (first last : PeerView) (written contents : Option (List ℕ)) : Type 0 where
+pub record IsHalted (waits failed : Type 0) (start : ℕ) (first last : PeerView) (written contents : Option (List ℕ))
+    : Type 0 where
   pub middle : PeerView
   pub before : Option (List ℕ)
   pub version : ℕ
-  pub followed : IsFollowed waits first middle written before version
+  pub followed : IsFollowed waits start first middle written before version
   pub taken : TakesLine middle.to_come last.to_come
   pub handed : (before ≡ contents) ⊎ (failed × IsCut middle last version before contents)

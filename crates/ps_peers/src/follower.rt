@@ -27,8 +27,8 @@ fn write_push<O: Sink>(delta: &[u8], out: &mut O) -> Result<(), Failed>
     send_whole(line.as_slice(), out)
 }
 
-/// Pulls all that a peer has, from version 0 on, and then each change that it gets, and writes each group as a change
-/// line. Each line is flushed before the next pull. A peer that has no more is asked to reply once it has.
+/// Pulls all that a peer has after its first `after` changes, and then each change that it gets, and writes each group
+/// as a change line. Each line is flushed before the next pull. A peer that has no more is asked to reply once it has.
 ///
 /// `until_now` ends it at the peer's end; a peer that closes before that is refused as `Line`, since not all was
 /// written. Otherwise it ends when the peer closes after a reply. What was written before stays written.
@@ -37,21 +37,22 @@ fn write_push<O: Sink>(delta: &[u8], out: &mut O) -> Result<(), Failed>
 ///
 /// - `Device`: a connection or `out` failed.
 /// - `Line`: a reply isn't due to its request.
-/// - `PeerRefused`: the peer replied `err`.
+/// - `PeerRefused`: the peer replied `err`, as one does that has fewer than `after` changes.
 ///
 /// Cost: linear in the bytes of the lines, besides the wait for the peer.
 pub fn follow<S: Source + Drop, K: Sink + Drop, O: Sink>(
     alloc: Global,
     from: &mut Peer<S, K>,
     out: &mut O,
+    after: u64,
     until_now: bool,
 ) -> Result<(), SyncFault>
     ensures all { OnOk result (until_now ≡ true
-        → IsAll (until_now ≡ false) from.old from.new (O.contents out.old) (O.contents out.new)) }
+        → IsAll (until_now ≡ false) after from.old from.new (O.contents out.old) (O.contents out.new)) }
     ensures left { OnOk result (until_now ≡ false
-        → IsUntilClosed (until_now ≡ false) from.old from.new (O.contents out.old) (O.contents out.new)) }
+        → IsUntilClosed (until_now ≡ false) after from.old from.new (O.contents out.old) (O.contents out.new)) }
     ensures halted { OnErr result (IsHalted (until_now ≡ false) (O.failures out.old < O.failures out.new)
-        from.old from.new (O.contents out.old) (O.contents out.new)) }
+        after from.old from.new (O.contents out.old) (O.contents out.new)) }
     ensures flushed { O.waiting out.old ≡ []
         → (O.waiting out.new ≡ []) ⊎ (O.failures out.old < O.failures out.new) }
     ensures calm { OnOk result ((from.new.failures ≡ from.old.failures)
@@ -60,7 +61,7 @@ pub fn follow<S: Source + Drop, K: Sink + Drop, O: Sink>(
         → (from.old.failures < from.new.failures) ⊎ (O.failures out.old < O.failures out.new) }
     ensures own { IfErr result (λ fault. IsOwn fault (without_return from.new.line)) }
 {
-    let mut version = 0u64;
+    let mut version = after;
     'pulls: loop {
         match next_due(alloc, from, version, LARGEST_GROUP) {
             Ok(Due::Group(last, start)) => {

@@ -55,8 +55,8 @@ pub fn sync<S: Source + Drop, K: Sink + Drop, T: Source + Drop, M: Sink + Drop>(
     from: &mut Peer<S, K>,
     to: &mut Peer<T, M>,
 ) -> Result<u64, SyncFault>
-    ensures all { OnOk result (IsAll ⊥ from.old from.new to.old.asked to.new.asked) }
-    ensures halted { OnErr result (IsHalted ⊥ ⊤ from.old from.new to.old.asked to.new.asked) }
+    ensures all { OnOk result (IsAll ⊥ 0 from.old from.new to.old.asked to.new.asked) }
+    ensures halted { OnErr result (IsHalted ⊥ ⊤ 0 from.old from.new to.old.asked to.new.asked) }
     ensures calm { OnOk result ((from.new.failures ≡ from.old.failures) × (to.new.failures ≡ to.old.failures)) }
     ensures failed { result ≡ Err (Refused Refusal.Device)
         → (from.old.failures < from.new.failures) ⊎ (to.old.failures < to.new.failures) }

@@ -13,8 +13,8 @@ use Rattle.ps_words.specs.declared.options.TheConstants.{LONGEST_IDLE, LONGEST_P
 use Rattle.ps_words.specs.declared.options.TheConstants.{MOST_CHANGES, MOST_SESSIONS}
 use Rattle.ps_words.specs.declared.arguments.TheConstants.{LAST_PORT}
 use Rattle.ps_words.specs.declared.options.Options.{Options}
-use Rattle.ps_words.specs.declared.options.Options.TheVariants.{Follow, Join, Relay, Run, Serve, Squash, Sync}
-use Rattle.ps_words.specs.declared.options.Options.TheVariants.{Table, Talk}
+use Rattle.ps_words.specs.declared.options.Options.TheVariants.{Follow, Join, Pipe, Relay, Run, Serve, Squash}
+use Rattle.ps_words.specs.declared.options.Options.TheVariants.{Sync, Table, Talk}
 
 -- an option with a number from least to most, which may be left out ..
 abbrev pub ranged_option : Text → ℕ → ℕ → Rule
@@ -76,15 +76,15 @@ sync_app = with_rule (with_rule (with_rule (new_app (codes "sync")) (needed_opti
 
 abbrev pub join_app : App
 join_app = with_rule (with_rule (with_rule (with_rule (with_rule (with_rule (with_rule (new_app (codes "join"))
-    (ranged_option (codes "from") 1 LAST_PORT)) (ranged_option (codes "to") 1 LAST_PORT))
+    (text_option (codes "from"))) (text_option (codes "to")))
     (ranged_option (codes "with") 1 LAST_PORT)) (flag_option (codes "lines")))
     (flag_option (codes "once"))) (flag_option (codes "check"))) (flag_option (codes "explain"))
 
 abbrev pub follow_app : App
-follow_app = with_rule (with_rule (with_rule (with_rule (new_app (codes "follow"))
+follow_app = with_rule (with_rule (with_rule (with_rule (with_rule (new_app (codes "follow"))
     (needed_option (codes "from") LAST_PORT))
-    (flag_option (codes "until-now"))) (usual_option (codes "every") 1 LONGEST_PAUSE (codes "50")))
-    (flag_option (codes "explain"))
+    (usual_option (codes "after") 0 MOST_CHANGES (codes "0"))) (flag_option (codes "until-now")))
+    (usual_option (codes "every") 1 LONGEST_PAUSE (codes "50"))) (flag_option (codes "explain"))
 
 abbrev pub talk_app : App
 talk_app = with_rule (with_rule (new_app (codes "talk")) (needed_option (codes "to") LAST_PORT))
@@ -122,6 +122,11 @@ abbrev pub GivesFlag : List Row → Text → Bool → Type 0
 GivesFlag rows id b = (one_of id rows ≡ Some (codes "true") → b ≡ true)
     × (one_of id rows ≡ Some (codes "false") → b ≡ false) × (one_of id rows ≡ None → b ≡ false)
 
+-- one of two options is "-", and the other one has this number; whether that is the first
+abbrev pub GivesPipe : List Row → Bool → ℕ → Type 0
+GivesPipe rows true port = (first_of (codes "from") rows ≡ Some (codes "-")) × GivesNumber rows (codes "to") port
+GivesPipe rows false port = (first_of (codes "to") rows ≡ Some (codes "-")) × GivesNumber rows (codes "from") port
+
 -- the command's name
 abbrev pub name_of : Options → Text
 name_of (Run o) = codes "run"
@@ -129,6 +134,7 @@ name_of (Table o) = codes "table"
 name_of (Serve o) = codes "serve"
 name_of (Sync o) = codes "sync"
 name_of (Join o) = codes "join"
+name_of (Pipe o) = codes "join"
 name_of (Relay o) = codes "join"
 name_of (Follow o) = codes "follow"
 name_of (Talk o) = codes "talk"
@@ -153,10 +159,13 @@ GivesNumbers rows (Sync o) = GivesNumber rows (codes "from") o.from × GivesNumb
 GivesNumbers rows (Join o) = GivesNumber rows (codes "from") o.from × GivesNumber rows (codes "to") o.to
     × GivesFlag rows (codes "once") o.once × GivesFlag rows (codes "check") o.check
     × GivesFlag rows (codes "explain") o.explain
+GivesNumbers rows (Pipe o) = GivesPipe rows o.is_first o.port
+    × GivesFlag rows (codes "once") o.once × GivesFlag rows (codes "explain") o.explain
 GivesNumbers rows (Relay o) = GivesNumber rows (codes "with") o.server × GivesFlag rows (codes "lines") true
     × GivesFlag rows (codes "once") o.once × GivesFlag rows (codes "explain") o.explain
-GivesNumbers rows (Follow o) = GivesNumber rows (codes "from") o.from × GivesFlag rows (codes "until-now") o.until_now
-    × GivesNumber rows (codes "every") o.every × GivesFlag rows (codes "explain") o.explain
+GivesNumbers rows (Follow o) = GivesNumber rows (codes "from") o.from × GivesNumber rows (codes "after") o.after
+    × GivesFlag rows (codes "until-now") o.until_now × GivesNumber rows (codes "every") o.every
+    × GivesFlag rows (codes "explain") o.explain
 GivesNumbers rows (Talk o) = GivesNumber rows (codes "to") o.to × GivesFlag rows (codes "explain") o.explain
 GivesNumbers rows (Squash o) = GivesText rows (codes "keep") o.keep × GivesCount rows (codes "until") o.until
     × GivesCount rows (codes "without") o.without

@@ -19,12 +19,12 @@ use crate::arguments::{
     usual_option, with_option, with_sheet_options,
 };
 use crate::help::{
-    CHECK_HELP, ENTRIES_HELP, EVERY_HELP, EXPLAIN_HELP, FOLLOW_HELP, FOLLOWED_HELP, FROM_HELP,
-    IDLE_HELP, JOIN_HELP, JOINED_FIRST_HELP, JOINED_SECOND_HELP, KEEP_HELP, LINES_HELP, ONCE_HELP,
-    PORT_EXPLAIN_HELP, PORT_HELP, RELAYED_HELP, RUN_HELP, SEATS_HELP, SERVE_HELP, SESSIONS_HELP,
-    SHEET_HELP, SQUASH_HELP, SQUASHED_HELP, STRICT_HELP, SYNC_HELP, TABLE_HELP, TALK_EXPLAIN_HELP,
-    TALK_HELP, TALKED_HELP, TITLE_HELP, TO_HELP, UNTIL_HELP, UNTIL_NOW_HELP, WAIT_HELP,
-    WITHOUT_HELP, WORKERS_HELP,
+    AFTER_HELP, CHECK_HELP, ENTRIES_HELP, EVERY_HELP, EXPLAIN_HELP, FOLLOW_HELP, FOLLOWED_HELP,
+    FROM_HELP, IDLE_HELP, JOIN_HELP, JOINED_FIRST_HELP, JOINED_SECOND_HELP, KEEP_HELP, LINES_HELP,
+    ONCE_HELP, PORT_EXPLAIN_HELP, PORT_HELP, RELAYED_HELP, RUN_HELP, SEATS_HELP, SERVE_HELP,
+    SESSIONS_HELP, SHEET_HELP, SQUASH_HELP, SQUASHED_HELP, STRICT_HELP, SYNC_HELP, TABLE_HELP,
+    TALK_EXPLAIN_HELP, TALK_HELP, TALKED_HELP, TITLE_HELP, TO_HELP, UNTIL_HELP, UNTIL_NOW_HELP,
+    WAIT_HELP, WITHOUT_HELP, WORKERS_HELP,
 };
 use crate::options::{LONGEST_IDLE, LONGEST_PAUSE, LONGEST_WAIT, MOST_CHANGES, MOST_SESSIONS};
 use clap::Command;
@@ -107,9 +107,9 @@ pub(crate) fn join_command<'a>(alloc: Global) -> Result<Command<'a>, AllocError>
     ensures local { IfOk result (λ command. (fields_of command).has_globals ≡ false) }
 {
     let about = "keeps two replicas at the same changes";
-    let from = ranged_option(alloc, "from", 1, LAST_PORT, JOINED_FIRST_HELP);
+    let from = text_option(alloc, "from", JOINED_FIRST_HELP);
     let command = with_option(new_command(alloc, "join", about, JOIN_HELP), from)?;
-    let to = ranged_option(alloc, "to", 1, LAST_PORT, JOINED_SECOND_HELP);
+    let to = text_option(alloc, "to", JOINED_SECOND_HELP);
     let command = with_option(command, to)?;
     let server = ranged_option(alloc, "with", 1, LAST_PORT, RELAYED_HELP);
     let command = with_option(command, server)?;
@@ -131,6 +131,8 @@ fn follow_command<'a>(alloc: Global) -> Result<Command<'a>, AllocError>
     let about = "writes what a replica has and gets as lines to push";
     let from = needed_option(alloc, "from", LAST_PORT, FOLLOWED_HELP);
     let command = with_option(new_command(alloc, "follow", about, FOLLOW_HELP), from)?;
+    let after = usual_option(alloc, "after", 0, MOST_CHANGES, "0", AFTER_HELP);
+    let command = with_option(command, after)?;
     let until_now = flag_option(alloc, "until-now", UNTIL_NOW_HELP);
     let command = with_option(command, until_now)?;
     let every = usual_option(

@@ -15,14 +15,15 @@ pub const SESSIONS_HELP: &str =
     "how many sessions to serve before it ends, 1 to 1000000; without it, until it is stopped";
 
 /// What `--seats` means, with the range 1 to `SEATS`.
-pub const SEATS_HELP: &str = "how many sessions to serve at a time, 1 to 256";
+pub const SEATS_HELP: &str =
+    "how many sessions to serve at a time, 1 to 256; each adds 40 instructions to a change, free or not";
 
 /// What `--wait` means, with the range 0 to `LONGEST_WAIT`.
 pub const WAIT_HELP: &str = "how many seconds a connection may wait for a seat, 0 to 60";
 
 /// What `--idle` means, with the range 1 to `LONGEST_IDLE`.
 pub const IDLE_HELP: &str =
-    "after how many seconds a session ends whose peer sends nothing, 1 to 86400; without it, never";
+    "how many seconds a peer may be silent, 1 to 86400; without it, 30 until its first line, and no limit then";
 
 /// What `--keep` means.
 pub const KEEP_HELP: &str =
@@ -52,10 +53,10 @@ pub const TO_HELP: &str = "the port of the replica that takes them in, 1 to 6553
 
 /// What `--from` of `join` means.
 pub const JOINED_FIRST_HELP: &str =
-    "the port of the replica whose changes go to the other one first, 1 to 65535";
+    "the port of the replica whose changes go to the other one first, 1 to 65535, or -";
 
 /// What `--to` of `join` means.
-pub const JOINED_SECOND_HELP: &str = "the port of the other replica, 1 to 65535";
+pub const JOINED_SECOND_HELP: &str = "the port of the other replica, 1 to 65535, or -";
 
 /// What `--with` means.
 pub const RELAYED_HELP: &str =
@@ -73,6 +74,9 @@ pub const CHECK_HELP: &str = "says whether both replicas hold the same, and merg
 
 /// What `--from` of `follow` means.
 pub const FOLLOWED_HELP: &str = "the port of the replica that is followed, 1 to 65535";
+
+/// What `--after` means, with the range 0 to `MOST_CHANGES`.
+pub const AFTER_HELP: &str = "passes over so many changes, from the first on, 0 to 1000000000";
 
 /// What `--until-now` means.
 pub const UNTIL_NOW_HELP: &str = "ends once all that the replica has is written";
@@ -275,6 +279,11 @@ the cells hold: contents, counters and sets, shown or not. Then it writes `in st
 and both versions; or `differ`, the number of cells that differ and the first 20 of
 them, row by row, and the exit status is 3.
 
+With - in place of one port, standard input and output lead to that replica: bytes
+that it writes come in, and the lines that it is asked go out. Standard error has
+`joined - and 7002` then. The command ends where either of both is lost, with status
+1, as it can't open that connection again.
+
 Examples:
 
   sheet join --from 7001 --to 7002
@@ -302,21 +311,23 @@ ends the command. So one process is enough for a broker's topic:
 /// What stands below the options of `sheet follow --help`.
 pub const FOLLOW_HELP: &str = "\
 The replica listens on this machine, 127.0.0.1. All that it has is written on
-standard output, from the first change on, up to 16 changes in a line, each line
-after the word `push`; and then each new change as it comes, until the replica
-closes the connection or whoever reads on does. Any other replica may be given the
-lines, in any order and again. With --until-now it ends once it has all there is;
-a replica that closes before that is refused as `err 15 line`.
+standard output, from the first change on or after the first ones that --after
+passes over, up to 16 changes in a line, each line after the word `push`; and then
+each new change as it comes, until the replica closes the connection or whoever
+reads on does. Any other replica may be given the lines, in any order and again.
+With --until-now it ends once it has all there is; a replica that closes before
+that is refused as `err 15 line`.
 
 Examples:
 
   sheet follow --from 7001 --until-now > all.lines
   sheet follow --from 7001 | sheet talk --to 7002 > replies
+  sheet follow --from 7001 --after 250000 >> all.lines
   sheet follow --from 7001 --every 1000 --explain
 
 The first keeps a replica as a file, the second hands each change of one replica
-to another as it comes, and the third is one for earlier versions. A line is such
-as
+to another as it comes, the third goes on after the changes that a file has, and the
+last is one for earlier versions. A line is such as
 
   push [[\"A1\",[1,1,\"5\"],[],[]]]";
 

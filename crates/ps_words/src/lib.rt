@@ -23,7 +23,7 @@ pub use help::{
 };
 pub use options::{
     FollowOptions, JoinOptions, LONGEST_IDLE, LONGEST_PAUSE, LONGEST_WAIT, MOST_SESSIONS, Options,
-    RelayOptions, RunOptions, ServeOptions, SheetOptions, SquashOptions, SyncOptions, TableOptions,
-    TalkOptions,
+    PipeOptions, RelayOptions, RunOptions, ServeOptions, SheetOptions, SquashOptions, SyncOptions,
+    TableOptions, TalkOptions,
 };
 pub use words::{PAGE_IS_GONE, asks_for_page, read_words};

@@ -17,7 +17,7 @@ pub const LONGEST_IDLE: u32 = 86_400;
 /// The greatest number of milliseconds of `--every`, an option of `follow` in earlier versions.
 pub const LONGEST_PAUSE: u16 = 60_000;
 
-/// The most change lines that `--until` of `squash` can ask for.
+/// The most change lines that `--until` of `squash` and `--after` of `follow` can ask for.
 pub const MOST_CHANGES: u32 = 1_000_000_000;
 
 /// What a sheet is opened with.
@@ -117,6 +117,20 @@ pub struct JoinOptions {
     ghost one_way: { once ≡ true → check ≡ false },
 }
 
+/// What `sheet join` is asked for where `-` takes the place of a port.
+#[derive(Clone, Copy, PartialEq, Eq)]
+pub struct PipeOptions {
+    /// Whether the changes of the replica behind standard input and output go first.
+    pub is_first: bool,
+    /// The port of the other replica, 1 or more.
+    pub port: u16,
+    /// Whether it ends once each has all that the other one had.
+    pub once: bool,
+    /// Whether standard error gets the reason if the port can't be used.
+    pub explain: bool,
+    ghost port_in_range: { 1 ≤ port },
+}
+
 /// What `sheet join --with --lines` is asked for.
 #[derive(Clone, Copy, PartialEq, Eq)]
 pub struct RelayOptions {
@@ -134,6 +148,8 @@ pub struct RelayOptions {
 pub struct FollowOptions {
     /// The port of the replica that is followed, 1 or more.
     pub from: u16,
+    /// How many changes of the replica are passed over, from the first on, up to `MOST_CHANGES`.
+    pub after: u32,
     /// Whether it ends once the replica has no more.
     pub until_now: bool,
     /// The milliseconds of `--every`, 1 to `LONGEST_PAUSE`. They have no effect any more.
@@ -141,6 +157,7 @@ pub struct FollowOptions {
     /// Whether standard error gets the reason if a port can't be used.
     pub explain: bool,
     ghost from_in_range: { 1 ≤ from },
+    ghost after_in_range: { after ≤ MOST_CHANGES },
     ghost every_in_range: { (1 ≤ every) × (every ≤ LONGEST_PAUSE) },
 }
 
@@ -181,6 +198,9 @@ pub enum Options<'a> {
     Sync(SyncOptions),
     /// Merges the changes of each of two replicas at the other, or compares them.
     Join(JoinOptions),
+    /// Merges the changes of each of two replicas at the other: that of a port, and the one behind standard input and
+    /// output.
+    Pipe(PipeOptions),
     /// Merges the lines of standard input at a replica, and writes the changes of others as such lines.
     Relay(RelayOptions),
     /// Writes all changes of a replica as change lines.

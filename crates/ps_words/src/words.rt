@@ -1,14 +1,14 @@
 //! Reading the program's words.
-ghost use Rattle.std.specs.Prelude.{◌≡◌, ◌≤◌, IfOk, IfSome, codes, map, string_bytes};
-ghost use Rattle.clap.specs.Words.{found_of, rows_of, subcommand_of};
+ghost use Rattle.std.specs.Prelude.{◌≡◌, ◌≤◌, IfOk, IfSome, Some, codes, map, string_bytes, true};
+ghost use Rattle.clap.specs.Words.{first_of, found_of, rows_of, subcommand_of};
 ghost use Rattle.ps_words.specs.Words.{GivesCount, GivesFlag, GivesNumber, GivesNumbers, GivesOptions, GivesText};
 ghost use Rattle.ps_words.specs.Words.{asks_for_page, name_of, sheet_app};
 
 use crate::commands::{join_command, sheet_command, squash_command};
 use crate::options::{
     FollowOptions, JoinOptions, LONGEST_IDLE, LONGEST_PAUSE, LONGEST_WAIT, MOST_CHANGES,
-    MOST_SESSIONS, Options, RelayOptions, RunOptions, ServeOptions, SheetOptions, SquashOptions,
-    SyncOptions, TableOptions, TalkOptions,
+    MOST_SESSIONS, Options, PipeOptions, RelayOptions, RunOptions, ServeOptions, SheetOptions,
+    SquashOptions, SyncOptions, TableOptions, TalkOptions,
 };
 use clap::error::ErrorKind;
 use clap::{ArgMatches, Error};
@@ -60,6 +60,17 @@ fn number_to(matches: &ArgMatches<'_>, id: &str, most: u8) -> Option<u8>
     ensures range { IfSome result (λ n. n ≤ most) }
 {
     match matches.get_one::<u8>(id) {
+        Some(number) if number <= most => Some(number),
+        _ => None,
+    }
+}
+
+/// The number of an option of up to 32 bits, if it is at most this.
+fn long_number_to(matches: &ArgMatches<'_>, id: &str, most: u32) -> Option<u32>
+    ensures number { IfSome result (GivesNumber (rows_of (found_of matches.now)) id.now) }
+    ensures range { IfSome result (λ n. n ≤ most) }
+{
+    match matches.get_one::<u32>(id) {
         Some(number) if number <= most => Some(number),
         _ => None,
     }
@@ -204,6 +215,48 @@ fn join_options<'a>(matches: &ArgMatches<'a>) -> Option<Options<'a>>
     }))
 }
 
+/// What takes the place of a port for standard input and output.
+const STANDARD: &str = "-";
+
+/// Whether an option is `-`.
+fn is_standard(matches: &ArgMatches<'_>, id: &str) -> bool
+    ensures { result ≡ true → first_of id.now (rows_of (found_of matches.now)) ≡ Some (codes "-") }
+{
+    match text_of(matches, id) {
+        Some(text) => text == STANDARD,
+        None => false,
+    }
+}
+
+/// The port of `join` with `-` in place of the other port, and its flags; none if it would only compare.
+fn pipe_options<'a>(matches: &ArgMatches<'a>) -> Option<Options<'a>>
+    ensures { IfSome result (λ options. (name_of options ≡ codes "join")
+        × GivesNumbers (rows_of (found_of matches.now)) options) }
+{
+    if flag_of(matches, "check") {
+        return None;
+    }
+    let once = flag_of(matches, "once");
+    let explain = flag_of(matches, "explain");
+    if is_standard(matches, "from") {
+        return Some(Options::Pipe(PipeOptions {
+            is_first: true,
+            port: port_of(matches, "to")?,
+            once,
+            explain,
+        }));
+    }
+    if is_standard(matches, "to") {
+        return Some(Options::Pipe(PipeOptions {
+            is_first: false,
+            port: port_of(matches, "from")?,
+            once,
+            explain,
+        }));
+    }
+    None
+}
+
 /// The port of `join --with`, and its flags; none without `--lines`.
 fn relay_options<'a>(matches: &ArgMatches<'a>) -> Option<Options<'a>>
     ensures { IfSome result (λ options. (name_of options ≡ codes "join")
@@ -221,13 +274,15 @@ fn relay_options<'a>(matches: &ArgMatches<'a>) -> Option<Options<'a>>
     }))
 }
 
-/// The options of `join`, over two ports or over one and lines.
+/// The options of `join`, over two ports, over one and `-`, or over one and lines.
 fn joining_options<'a>(matches: &ArgMatches<'a>) -> Option<Options<'a>>
     ensures { IfSome result (λ options. (name_of options ≡ codes "join")
         × GivesNumbers (rows_of (found_of matches.now)) options) }
 {
     if matches.contains_id("with") {
         relay_options(matches)
+    } else if is_standard(matches, "from") || is_standard(matches, "to") {
+        pipe_options(matches)
     } else {
         join_options(matches)
     }
@@ -238,6 +293,12 @@ fn excluded(matches: &ArgMatches<'_>) -> Option<&'static str> {
     let checks = matches.get_flag("check");
     if checks && matches.get_flag("once") {
         return Some("the argument '--once' cannot be used with '--check', which merges nothing");
+    }
+    if is_standard(matches, "from") && is_standard(matches, "to") {
+        return Some("the argument '--from -' cannot be used with '--to -'");
+    }
+    if checks && (is_standard(matches, "from") || is_standard(matches, "to")) {
+        return Some("the argument '--check' cannot be used with '-' in place of a port");
     }
     if !matches.contains_id("with") {
         return None;
@@ -270,14 +331,32 @@ fn missing(matches: &ArgMatches<'_>) -> &'static str {
     }
 }
 
-/// Whether the options of `join` can't be given together, or one is missing.
-fn is_troubled(matches: &ArgMatches<'_>) -> bool {
-    excluded(matches).is_some() || !missing(matches).is_empty()
+/// The option of `join` that is neither a port nor `-`, if there is one, and what it is.
+fn misplaced<'a>(matches: &ArgMatches<'a>) -> Option<(&'static str, &'a str)> {
+    for id in ["from", "to"] {
+        if let Some(text) = text_of(matches, id) {
+            if text != STANDARD && port_of(matches, id).is_none() {
+                return Some((id, text));
+            }
+        }
+    }
+    None
 }
 
-/// The error of a join whose options can't be given together, or where one is missing.
+/// Whether the options of `join` can't be given together, or one is missing or is no port.
+fn is_troubled(matches: &ArgMatches<'_>) -> bool {
+    misplaced(matches).is_some() || excluded(matches).is_some() || !missing(matches).is_empty()
+}
+
+/// The error of a join whose options can't be given together, or where one is missing or is no port.
 fn trouble_error(alloc: Global, matches: &ArgMatches<'_>) -> Result<Error, AllocError> {
     let mut command = join_command(alloc)?;
+    if let Some((id, text)) = misplaced(matches) {
+        let message = format!(in alloc;
+            "invalid value '{text}' for '--{id} <{id}>': neither a port, 1 to 65535, nor '-'"
+        )?;
+        return command.error(ErrorKind::ValueValidation, message.as_str());
+    }
     if let Some(message) = excluded(matches) {
         return command.error(ErrorKind::ArgumentConflict, message);
     }
@@ -288,17 +367,19 @@ fn trouble_error(alloc: Global, matches: &ArgMatches<'_>) -> Result<Error, Alloc
     command.error(ErrorKind::MissingRequiredArgument, message.as_str())
 }
 
-/// The port and the pause of `follow`, and its flags.
+/// The port and the numbers of `follow`, and its flags.
 fn follow_options<'a>(matches: &ArgMatches<'a>) -> Option<Options<'a>>
     ensures { IfSome result (λ options. (name_of options ≡ codes "follow")
         × GivesNumbers (rows_of (found_of matches.now)) options) }
 {
     let from = port_of(matches, "from")?;
+    let after = long_number_to(matches, "after", MOST_CHANGES)?;
     let until_now = flag_of(matches, "until-now");
     let every = wide_number_of(matches, "every", LONGEST_PAUSE)?;
     let explain = flag_of(matches, "explain");
     Some(Options::Follow(FollowOptions {
         from,
+        after,
         until_now,
         every,
         explain,

@@ -12,7 +12,7 @@ returns-in-Err-write_push-clause-halted g c =
     let due = rw c.in-Ok-Group.field-0-is at c.in-Ok-Group.ensures.next in
     let line = without_return c.next_due.new.from.line in
     let delta = drop c.in-Ok-Group.start line in
-    halted_cut _ c.args.from.now c.pulls.from c.next_due.new.from (g.O.Sink.contents c.args.out.now)
+    halted_cut _ c.args.after c.args.from.now c.pulls.from c.next_due.new.from (g.O.Sink.contents c.args.out.now)
     (g.O.Sink.contents c.pulls.out) (g.O.Sink.contents c.write_push.new.out)
     c.pulls.version c.pulls.invariant.followed _ (push_text delta) c.in-Ok-Group.last
     (subst (λ n. n < g.O.Sink.failures c.write_push.new.out) c.pulls.invariant.second
@@ -27,8 +27,8 @@ pulls-preserved-in-Ok-Group g c =
     let line = without_return c.next_due.new.from.line in
     let delta = drop c.in-Ok-Group.start line in
     record {
-      followed = followed_more _ c.args.from.now c.pulls.from c.next_due.new.from (g.O.Sink.contents c.args.out.now)
-          (g.O.Sink.contents c.pulls.out) (g.O.Sink.contents c.write_push.new.out)
+      followed = followed_more _ c.args.after c.args.from.now c.pulls.from c.next_due.new.from
+          (g.O.Sink.contents c.args.out.now) (g.O.Sink.contents c.pulls.out) (g.O.Sink.contents c.write_push.new.out)
           c.pulls.version c.pulls.invariant.followed (push_text delta) c.in-Ok-Group.last
           due.0 (inl (delta, due.1.0, refl))
           (subst (λ text. Appends (g.O.Sink.contents c.pulls.out) (g.O.Sink.contents c.write_push.new.out)
@@ -43,8 +43,8 @@ returns-in-Ok-End-clause-all g c = λ _.
     let due = rw c.in-Ok-End.field-0-is at c.in-Ok-End.ensures.next in
     record {
       version = c.pulls.version;
-      followed = followed_end _ c.args.from.now c.pulls.from c.next_due.new.from (g.O.Sink.contents c.args.out.now)
-          (g.O.Sink.contents c.pulls.out) (g.O.Sink.contents c.pulls.out)
+      followed = followed_end _ c.args.after c.args.from.now c.pulls.from c.next_due.new.from
+          (g.O.Sink.contents c.args.out.now) (g.O.Sink.contents c.pulls.out) (g.O.Sink.contents c.pulls.out)
           c.pulls.version c.pulls.invariant.followed due.0 due.1 refl;
       ended = due.1;
     }
@@ -53,11 +53,11 @@ pub pulls-preserved : goal.pulls-preserved
 pulls-preserved g c =
     let due = rw c.in-Ok-End.field-0-is at c.in-Ok-End.ensures.next in
     let news = rw c.in-Ok-true.field-0-test at c.in-Ok-true.ensures.news in
-    let ended = followed_end _ c.args.from.now c.pulls.from c.next_due.new.from
+    let ended = followed_end _ c.args.after c.args.from.now c.pulls.from c.next_due.new.from
     (g.O.Sink.contents c.args.out.now) (g.O.Sink.contents c.pulls.out) (g.O.Sink.contents c.pulls.out)
     c.pulls.version c.pulls.invariant.followed due.0 due.1 refl in
     record {
-      followed = followed_wait _ c.args.from.now c.next_due.new.from c.await_news.new.from
+      followed = followed_wait _ c.args.after c.args.from.now c.next_due.new.from c.await_news.new.from
           (g.O.Sink.contents c.args.out.now) (g.O.Sink.contents c.pulls.out) (g.O.Sink.contents c.pulls.out)
           c.pulls.version ended c.if-until_now.false news.0 news.1;
       first = news.0.calm ∙ due.0.calm ∙ c.pulls.invariant.first;
@@ -71,7 +71,7 @@ returns-in-Ok-false-clause-left g c = λ follows.
     record {
       middle = c.next_due.new.from;
       version = c.pulls.version;
-      followed = followed_end _ c.args.from.now c.pulls.from c.next_due.new.from
+      followed = followed_end _ c.args.after c.args.from.now c.pulls.from c.next_due.new.from
           (g.O.Sink.contents c.args.out.now) (g.O.Sink.contents c.pulls.out) (g.O.Sink.contents c.pulls.out)
           c.pulls.version c.pulls.invariant.followed due.0 due.1 refl;
       closed = inr (follows, rw c.in-Ok-false.field-0-test at c.in-Ok-false.ensures.news);
@@ -80,9 +80,9 @@ returns-in-Ok-false-clause-left g c = λ follows.
 pub returns-in-Err-await_news-clause-halted : goal.returns-in-Err-await_news-clause-halted
 returns-in-Err-await_news-clause-halted g c =
     let due = rw c.in-Ok-End.field-0-is at c.in-Ok-End.ensures.next in
-    let ended = followed_end _ c.args.from.now c.pulls.from c.next_due.new.from
+    let ended = followed_end _ c.args.after c.args.from.now c.pulls.from c.next_due.new.from
     (g.O.Sink.contents c.args.out.now) (g.O.Sink.contents c.pulls.out) (g.O.Sink.contents c.pulls.out)
     c.pulls.version c.pulls.invariant.followed due.0 due.1 refl in
-    halted_before _ c.args.from.now c.next_due.new.from c.await_news.new.from (g.O.Sink.contents c.args.out.now)
-    (g.O.Sink.contents c.pulls.out) (g.O.Sink.contents c.pulls.out) c.pulls.version ended _ refl
+    halted_before _ c.args.after c.args.from.now c.next_due.new.from c.await_news.new.from
+    (g.O.Sink.contents c.args.out.now) (g.O.Sink.contents c.pulls.out) (g.O.Sink.contents c.pulls.out) c.pulls.version ended _ refl
     c.in-Err-await_news.ensures.taken

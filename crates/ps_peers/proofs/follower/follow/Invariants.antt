@@ -4,7 +4,8 @@ use Rattle.ps_peers.proofs.follower.follow.Given as goal
 
 abbrev pub invariant-pulls : goal.invariant-pulls
 invariant-pulls g l = record {
-  followed : IsFollowed (l.fn.until_now ≡ false) l.fn.from l.from (g.O.Sink.contents l.fn.out) (g.O.Sink.contents l.out) l.version;
+  followed : IsFollowed (l.fn.until_now ≡ false) l.fn.after l.fn.from l.from (g.O.Sink.contents l.fn.out)
+      (g.O.Sink.contents l.out) l.version;
   first : l.from.failures ≡ l.fn.from.failures;
   second : g.O.Sink.failures l.out ≡ g.O.Sink.failures l.fn.out;
   flushed : g.O.Sink.waiting l.fn.out ≡ [] → g.O.Sink.waiting l.out ≡ [];

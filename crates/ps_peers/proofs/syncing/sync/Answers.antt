@@ -12,7 +12,7 @@ returns-in-Err-push-clause-halted g c =
     let due = rw c.in-Ok-Group.field-0-is at c.in-Ok-Group.ensures.next in
     let line = without_return c.next_due.new.from.line in
     let delta = drop c.in-Ok-Group.start line in
-    halted_cut ⊥ c.args.from.now c.pulls.from c.next_due.new.from c.args.to.now.asked c.pulls.to.asked
+    halted_cut ⊥ 0 c.args.from.now c.pulls.from c.next_due.new.from c.args.to.now.asked c.pulls.to.asked
     c.push.new.to.asked
     c.pulls.version c.pulls.invariant.followed _ (push_text delta) c.in-Ok-Group.last tt
     due.0 (inl (delta, due.1.0, refl))
@@ -25,7 +25,7 @@ pulls-preserved g c =
     let line = without_return c.next_due.new.from.line in
     let delta = drop c.in-Ok-Group.start line in
     record {
-      followed = followed_more ⊥ c.args.from.now c.pulls.from c.next_due.new.from c.args.to.now.asked
+      followed = followed_more ⊥ 0 c.args.from.now c.pulls.from c.next_due.new.from c.args.to.now.asked
           c.pulls.to.asked c.push.new.to.asked
           c.pulls.version c.pulls.invariant.followed (push_text delta) c.in-Ok-Group.last
           due.0 (inl (delta, due.1.0, refl))
@@ -40,7 +40,7 @@ returns-in-Ok-End-clause-all g c =
     let due = rw c.in-Ok-End.field-0-is at c.in-Ok-End.ensures.next in
     record {
       version = c.pulls.version;
-      followed = followed_end ⊥ c.args.from.now c.pulls.from c.next_due.new.from c.args.to.now.asked
+      followed = followed_end ⊥ 0 c.args.from.now c.pulls.from c.next_due.new.from c.args.to.now.asked
           c.pulls.to.asked c.pulls.to.asked
           c.pulls.version c.pulls.invariant.followed due.0 due.1 refl;
       ended = due.1;

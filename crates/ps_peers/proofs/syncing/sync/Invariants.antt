@@ -4,7 +4,7 @@ use Rattle.ps_peers.proofs.syncing.sync.Given as goal
 
 abbrev pub invariant-pulls : goal.invariant-pulls
 invariant-pulls g l = record {
-  followed : IsFollowed ⊥ l.fn.from l.from l.fn.to.asked l.to.asked l.version;
+  followed : IsFollowed ⊥ 0 l.fn.from l.from l.fn.to.asked l.to.asked l.version;
   first : l.from.failures ≡ l.fn.from.failures;
   second : l.to.failures ≡ l.fn.to.failures;
 }
