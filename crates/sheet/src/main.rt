@@ -30,13 +30,16 @@
 ghost use Rattle.std.specs.Prelude.{◌≡◌, ◌<◌};
 ghost use Rattle.ps_grid.specs.Blanks.{IsBlankOf};
 
+mod terminal;
+
+use crate::terminal::ShownOutput;
 use clap::Error;
 use clap::error::ErrorKind;
 use ps_commands::{
     Input, KeptName, KeptObserver, Observer, ProgramFault, answer_kept, answer_lines, check_on,
-    follow_on, join_on, join_once_on, leave_unfreed, lost_file, open_kept_sheet, port_fault,
-    relay_on, serve, serve_kept, squash_kept, squash_on, squash_part_on, status_of, sync_on,
-    table_on, talk_on, tell_left_out, tell_opened,
+    follow_on, join_on, join_once_on, join_pipe_on, leave_unfreed, lost_file, open_kept_sheet,
+    port_fault, relay_on, serve, serve_kept, squash_kept, squash_on, squash_part_on, status_of,
+    sync_on, table_on, talk_on, tell_left_out, tell_opened,
 };
 use ps_device::{ConsoleOutput, Reading, Sink, Writing};
 use ps_eval::Meter;
@@ -234,6 +237,19 @@ fn on_standard<
             join_once_on(threads, rt.alloc(), options, &mut sink)
         }
         Options::Join(options) => Err(join_on(threads, rt.alloc(), options, rt.stderr())),
+        Options::Pipe(options) => {
+            let source = Reading::<_, I>::new(rt.reader(), counts.input);
+            let file = rt.stdin().as_raw_fd();
+            let sink = console::<O>(rt, counts.output)?;
+            join_pipe_on(
+                threads,
+                rt.alloc(),
+                options,
+                Input { source, file },
+                sink,
+                rt.stderr(),
+            )
+        }
         Options::Relay(options) => {
             let source = Reading::<_, I>::new(rt.reader(), counts.input);
             let file = rt.stdin().as_raw_fd();
@@ -264,7 +280,7 @@ fn on_standard<
             }
             None => {
                 let mut source = Reading::<_, I>::new(rt.reader(), counts.input);
-                let mut sink = Writing::<_, O>::new(rt.stdout(), counts.output);
+                let mut sink = Writing::<_, O>::new(shown_output(rt), counts.output);
                 if options.until.is_none() && options.without.is_none() {
                     return squash_on(rt.alloc(), &mut source, &mut sink);
                 }
@@ -278,10 +294,20 @@ fn on_standard<
 
 /// Returns standard output, whose bytes wait in memory until a flush. `output` counts its failures. Fails out of
 /// memory.
-fn console<O: Ledger>(rt: &HostRuntime, output: Blank) -> Result<ConsoleOutput<Stdout, O>, Refusal>
+fn console<O: Ledger>(
+    rt: &HostRuntime,
+    output: Blank,
+) -> Result<ConsoleOutput<ShownOutput<Stdout>, O>, Refusal>
     requires { IsBlankOf output O.name O.parts }
 {
-    ConsoleOutput::new(rt.alloc(), rt.stdout(), output)
+    ConsoleOutput::new(rt.alloc(), shown_output(rt), output)
+}
+
+/// Returns standard output, which spells control characters out at a terminal.
+fn shown_output(rt: &HostRuntime) -> ShownOutput<Stdout> {
+    let stdout = rt.stdout();
+    let is_terminal = stdout.is_terminal();
+    ShownOutput::new(stdout, is_terminal)
 }
 
 /// Returns what the commands work with: these threads, and the memory of the program.
@@ -352,7 +378,7 @@ fn run_kept<R: Files<File = File> + Threads + Sync, I: Ledger, O: Ledger, H: Led
     };
     let warner = tell_opened(rt.alloc(), path, &sheet, rt.stderr());
     let mut source = Reading::<_, I>::new(rt.reader(), counts.input);
-    let writing = Writing::<_, O>::new(rt.stdout(), counts.output);
+    let writing = Writing::<_, O>::new(shown_output(rt), counts.output);
     let mut sink = HeldOutput::<_, H>::new(rt.alloc(), writing, counts.held);
     let told = is_explained(rt, options.explain).then_some(rt.stderr());
     let mut observer = KeptObserver::new(Observer::new(rt.alloc(), told), warner);
@@ -451,7 +477,7 @@ fn put_table<R: Threads + Sync, I: Ledger, O: Ledger, M: Ledger>(
     let told = is_explained(rt, options.explain).then_some(Vec::new(rt.alloc()));
     let mut observer = Observer::new(rt.alloc(), told);
     let mut source = Reading::<_, I>::new(rt.reader(), counts.input);
-    let mut sink = Writing::<_, O>::new(rt.stdout(), counts.output);
+    let mut sink = Writing::<_, O>::new(shown_output(rt), counts.output);
     let done = table_on(
         resources_of(rt, threads),
         &mut source,
