@@ -56,7 +56,7 @@ function asksWhich(cell, text, other) {
   return question(`${nameOf(cell)}: somebody has put ${theirs} here while you typed "${text}". Which stays?`,
     ['Mine', 'Theirs', 'Go on typing']);
 }
-/** Whether another entry than this one has come to a cell, and isn't the wanted one. */
+/** Whether a cell got another entry than this one, and not the wanted one. */
 const isDisputed = (cell, was, base, text) => base !== undefined && was !== base &&
   ![own.get(keyOf(...cell)), toEntry(text)].includes(was) && fromEntry(was) !== text;
 /**

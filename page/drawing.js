@@ -16,7 +16,7 @@ function reveal([column, row]) {
   if (y < grid.scrollTop) grid.scrollTop = y;
   else if (y + HEIGHT > grid.scrollTop + height) grid.scrollTop = y + HEIGHT - height;
 }
-/** Selects the area between two cells, of which the first is the current one. */
+/** Selects the area between two cells. The first is the current one. */
 function select(from, to = from) {
   if (!isSame(from, current)) leaveMark(current);
   [current, corner] = [from, to];

@@ -1,5 +1,5 @@
-// The options of a cell, as marks that are put on and off, and their names: the texts of a row or column of cells that
-// a note tells, `options F1:K1` at the end of a text in the next cell to the right, or above in the column.
+// The options of a cell, as marks that are put on and off, and their names. These are the texts of a row or column of
+// cells. A note says which: `options F1:K1` at the end of a text in the next cell to the right, or above in the column.
 const NOTE = /\boptions ([A-Z]{1,2}\d+:[A-Z]{1,2}\d+)\)?$/;
 const nameLists = new Map();
 /** The cell with the note for a set of options, and the area that it tells; null where there is none. */

@@ -21,19 +21,20 @@ BEFORE_PATTERN = re.compile(r"[(,=:\[!&|?{};+\-*<>]$|^return$")
 WORD = re.compile(r"[A-Za-z_$][\w$]*$")
 # So many parts stand in a line at least, so that lines don't get too long.
 LINE_PARTS = 240
-# Properties of the page's own objects that get short names, too. A browser's object of which the scripts use a property
-# of that name would lose it; a call of one is found.
-OWN_PROPERTIES = {"after", "area", "before", "cell", "column", "entry", "from", "isHeard", "isNew", "isSeen", "isUp", "kind",
-                  "names", "source", "steps", "text", "why"}
+# Properties of the page's own objects that get short names, too. If the scripts use a property of that name of a
+# browser's object, it is lost; a call of one is found.
+OWN_PROPERTIES = {"after", "area", "before", "cell", "column", "entry", "from", "isFull", "isHeard", "isNew", "isSeen",
+                  "isUp", "kind", "names", "source", "steps", "text", "why"}
 # Words that are declared outside of functions, and stand so often that they get short names.
-OFTEN = {"COLUMNS", "HEIGHT", "NO_LINK", "afterMove", "areaAround", "askMove", "begunWith", "cellAt",
-         "cellsOf", "claim", "columnAt", "columnName", "commit", "copiedArea", "cutArea", "drag",
-         "drawButtons", "drawOptions", "drawTitle", "editorKey", "focusAgain", "focusGrid", "fromEntry",
-         "givenTitle", "heldUp", "hideOptions", "isAtGrid", "isControl", "isCounter", "isEmpty", "isInGrid",
-         "isMoving", "isSame", "isUnderstood", "isWhole", "isWithin", "knownCount", "lastAnswer", "lefts",
-         "moveLate", "nameLists", "namesFor", "numeralHabit", "passedOver", "pickedCell", "placeEditor",
-         "putMany", "readArea", "readBoth", "readOptions", "readRange", "rowElements", "rowsOf",
-         "seenSelected", "several", "tellChange", "textIn", "textOf"}
+OFTEN = {"COLUMNS", "HEIGHT", "NO_LINK", "afterMove", "areaAround", "askMove", "begunWith", "boxOf", "cellAt",
+         "cellsOf", "claim", "columnAt", "columnName", "commit", "copiedArea", "cutArea", "drag", "drawButtons",
+         "drawOptions", "drawTitle", "editorKey", "focusAgain", "focusGrid", "fromEntry", "givenTitle", "heldUp",
+         "hideOptions", "isAtGrid", "isControl", "isCounter", "isDue", "isEmpty", "isInGrid", "isMoving",
+         "isSame", "isTyped", "isUnderstood", "isWhole", "isWithin", "knownCount", "lastAnswer", "layOutAgain",
+         "lefts", "moveLate", "nameLists", "namesFor", "needsApostrophe", "numeralHabit", "outcome",
+         "passedOver", "pickedCell", "pixels", "placeEditor", "putMany", "readArea", "readBoth", "readOptions",
+         "readRange", "rowElements", "rowsOf", "seenSelected", "sendWaiting", "servedTitle", "setWidth",
+         "several", "stopEditing", "takesLines", "tellChange", "tellLink", "textIn", "textOf", "wasHeard"}
 # Words of one or two letters that are no names.
 RESERVED = {"do", "if", "in", "of"}
 

@@ -46,13 +46,16 @@ link.onLink = () => {
   document.body.classList.toggle('lost', !link.isHeard);
   $('link').textContent = link.words;
   if (link.isUp && !link.isHeard) { seenAt = seenRange = ''; look(); draw(); }
-  if (link.isHeard) {
-    showGrid();
-    tell('');
-  }
+  if (link.isHeard) tell('');
+  showGrid();
 };
 link.onChange = look;
-const showGrid = () => document.body.classList.remove('unseen');
+// A page that waits for its first slot has no grid: an empty one would look like an empty sheet.
+let isDue = false, wasHeard = false;
+function showGrid() {
+  wasHeard = wasHeard || link.isHeard;
+  document.body.classList.toggle('unseen', !wasHeard && (!isDue || link.isUp || link.isFull));
+}
 Object.assign($('corner').style, { width: SIDE + 'px', height: HEIGHT + 'px', marginBottom: -HEIGHT + 'px' });
 layOut();
 drawButtons();
@@ -71,4 +74,4 @@ function start() {
 }
 new PerformanceObserver(start).observe({ type: 'paint', buffered: true });
 // (a page behind others has no picture, and a connection may be slow)
-setTimeout(() => { start(); showGrid(); }, 500);
+setTimeout(() => { start(); isDue = true; showGrid(); }, 500);

@@ -1,6 +1,6 @@
-// What is told, beside a cell, and what is asked, in a box that waits for an answer.
+// What the page says, beside a cell, and what it asks, in a box that waits for an answer.
 let telling = null;
-/** Tells a text beside a cell, for some seconds or until something else is told; `isNote` where nothing went wrong. */
+/** Tells a text beside a cell, for some seconds or until another one; `isNote` where nothing went wrong. */
 function tell(text, cell = current, stays = false, isNote = false) {
   const box = $('refusal'), element = cells.get(keyOf(...cell));
   box.textContent = text;

@@ -1,5 +1,5 @@
 // The title of the window: the one that was given here, which this browser keeps, or the server's, or the text in the
-// first cell; and the port, by which sheets are told apart. A print has it at its head; a saved file has the given one
+// first cell; and the port, which tells sheets apart. A print has it at its head; a saved file has the given one
 // as its name.
 const titles = keptMap('title'), givenTitle = () => titles.get('') || '';
 let servedTitle = '';
@@ -16,7 +16,7 @@ on($('title'), 'change', event => {
   drawTitle();
 });
 link.onAbout = (here, title) => {
-  $('here').textContent = here > 1 ? here + ' here' : '';
+  $('here').textContent = here > 1 || link.isFull ? here + ' here' : '';
   servedTitle = title;
   drawTitle();
 };

@@ -3,8 +3,12 @@
 const POLL = 200, LEAST_GAP = 40, FIRST_WAIT = 500, LONGEST_WAIT = 5000, MOST_UNDER_WAY = 250;
 // Why the server closes a connection.
 const ENDS = { 'no room': 'all places are taken' };
-// (`isNew` until the first connection has come about or failed: what is asked meanwhile waits for it)
-const link = { isUp: false, isHeard: false, isNew: true, words: 'connecting', onLink() {}, onChange() {}, onAbout() {} };
+// (`isNew` until the first connection is there or has failed: what is asked meanwhile waits for it; `isFull` while
+// there is no slot)
+const link = {
+  isUp: false, isHeard: false, isNew: true, isFull: false, words: 'connecting',
+  onLink() {}, onChange() {}, onAbout() {},
+};
 const takesLines = () => link.isHeard || link.isNew;
 let socket = null, pause = FIRST_WAIT, waiting = [], underWay = [];
 
@@ -33,7 +37,7 @@ function connect() {
   opened.onmessage = event => {
     if (!link.isHeard) {
       link.isHeard = true;
-      link.isNew = false;
+      link.isNew = link.isFull = false;
       pause = FIRST_WAIT;
       tellLink('connected');
       setTimeout(askAside, 0, true);
@@ -51,6 +55,8 @@ function connect() {
 function lose(reason) {
   const was = link.isHeard;
   link.isUp = link.isHeard = link.isNew = false;
+  link.isFull = !!reason;
+  if (reason) askAside(true);
   for (const asked of [...underWay.splice(0), ...waiting.splice(0)]) asked.fail(new Error('lost'));
   if (was) { silence = max(400, silence / 2); giveSign(); }
   tellLink((reason || (was ? 'connection lost' : 'no connection')) + ', trying again');

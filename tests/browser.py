@@ -146,7 +146,7 @@ class Page:
 
 
 class Browser:
-    """A browser, of which nothing is left once the block is left."""
+    """A browser that leaves nothing once the block is left."""
 
     def __init__(self, core=None):
         """Starts a browser with a new profile, on one core where that is named."""

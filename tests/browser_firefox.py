@@ -28,7 +28,7 @@ def program():
 
 
 class Firefox:
-    """A browser with one page, of which nothing is left once it is ended."""
+    """A browser with one page, which leaves nothing once it is ended."""
 
     def __init__(self):
         self.folder = tempfile.TemporaryDirectory(prefix="sheet-firefox-", ignore_cleanup_errors=True)

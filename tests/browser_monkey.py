@@ -162,7 +162,7 @@ class Monkey:
         self.chance = random.Random(seed)
         self.told = [f"page {number}", kind]
         getattr(self, kind)(number, self.pages[number])
-        # a page may go on at once, but another one begins with what is there
+        # a page may go on at once, but another one begins with what the sheet has
         self.settle()
 
     def type(self, number, page):

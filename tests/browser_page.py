@@ -120,7 +120,7 @@ class BrowserTest(ProgramTest):
                           % (kind, form))
 
     def told(self, page):
-        """What is told beside a cell at last."""
+        """What the page says beside a cell at last."""
         page.wait_for("document.getElementById('refusal').hidden", False)
         return page.value("document.getElementById('refusal').textContent")
 

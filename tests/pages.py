@@ -43,7 +43,7 @@ def indented(text, heading):
 
 
 def unfenced(text):
-    """A page's text without its fenced blocks and indented lines, and with a word in the place of each piece of code."""
+    """A page's text without its fenced blocks and indented lines, and with a word instead of each piece of code."""
     text = re.sub(r"^```.*?^```$", "", text, flags=re.MULTILINE | re.DOTALL)
     text = "\n".join("" if line.startswith("    ") else line for line in text.split("\n"))
     return re.sub(r"`[^`]*`", "X", text)

@@ -1,4 +1,4 @@
-"""The page of `sheet serve` with real sockets: what is answered, who is refused, and browsers that come and go."""
+"""The page of `sheet serve` with real sockets: what is answered, what is refused, and browsers that come and go."""
 import contextlib
 import errno
 import resource
@@ -473,7 +473,7 @@ class Slots(ProgramTest):
 
     def test_a_server_whose_last_session_is_a_browser(self):
         with serving(1) as server, contextlib.ExitStack() as stack:
-            # who says nothing, and who has half a head, doesn't hold it up
+            # one that says nothing, and one with half a head, don't hold it up
             stack.enter_context(connection_to(server.port))
             stack.enter_context(connection_to(server.port)).sendall(b"GET / HTTP/1.1\r\n")
             with WebSocket(server.port) as opened:

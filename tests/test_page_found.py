@@ -1,5 +1,6 @@
 """The page of `sheet serve` for everybody: by keys alone, a screen reader, on small and dark screens; help and size."""
 import json
+import re
 import unittest
 
 from browser import SHIFT
@@ -221,6 +222,9 @@ class Help(FoundTest):
             self.assertIn(function, text)
         for word in ("Ctrl+Z", "Ctrl+D", "F6", "64 bytes", "counter", "options F1:K1", "CZ1024"):
             self.assertIn(word, text)
+        # one screen has all of it, where there is room
+        self.assertEqual(page.value("(box => [box.scrollHeight - box.clientHeight, box.scrollWidth - box.clientWidth])"
+                                    "(document.getElementById('help'))"), [0, 0])
         self.keep_picture(page, "help")
         page.key("Escape")
         page.wait_for("document.getElementById('help').open", False)
@@ -229,9 +233,12 @@ class Help(FoundTest):
         page.wait_for("document.getElementById('help').open")
 
     def test_its_formulas_are_formulas(self):
+        """Each function has an example of its own."""
         page = self.page()
         formulas = page.value("[...document.querySelectorAll('#help dt')].map(e => e.textContent).filter(isFormula)")
-        self.assertGreater(len(formulas), 5)
+        formulas += re.findall(r"=[A-Z]+\([^()]*\)", page.value("document.getElementById('help').textContent"))
+        for function in page.value("FUNCTIONS"):
+            self.assertTrue([formula for formula in formulas if formula.startswith(f"={function}(")], function)
         for row, formula in enumerate(formulas, 1):
             self.fill(f"set H{row} " + page.value(f"toEntry({json.dumps(formula)})"))
 

@@ -53,6 +53,10 @@ class Short(unittest.TestCase):
         given = "a, b { color: var(--text); }\n:root { --text: #fff; --back : #000; }"
         self.assertEqual(ran("short_style", given).stdout, "a,b{color:var(--a)}:root{--a:#fff;--b:#000}")
 
+    def test_each_script_has_its_tests(self):
+        for script in (TOP / "page").glob("*.js"):
+            self.assertTrue((TOP / "tests" / f"test_page_{script.stem}.py").exists(), script.name)
+
     def test_pages(self):
         given = '<p id="a" title="b c">d</p>\n<p>e</p><b>f</b>'
         self.assertEqual(ran("short_page", given).stdout, '<p id=a title="b c">d\n<p>e</p><b>f</b>')

@@ -58,5 +58,13 @@ class Served(BrowserTest):
         first.wait_for(here, "")
 
 
+class First(BrowserTest):
+    def test_the_title_tells_the_sheet(self):
+        page = self.page()
+        page.wait_for("document.title", f"Sheet {self.server.port}")
+        self.fill("set A1 Friday lunch")
+        page.wait_for("document.title", f"Friday lunch - sheet {self.server.port}")
+
+
 if __name__ == "__main__":
     unittest.main()

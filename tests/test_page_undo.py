@@ -108,7 +108,7 @@ class Undo(BrowserTest):
         page.wait_for("document.getElementById('options').hidden", True)
         page.key("z", CONTROL)
         self.assert_held("get A1", "val {2}")
-        # where somebody has taken it out already, it is told
+        # where somebody has taken it out already, it says so
         page.key("y", CONTROL)
         self.assert_held("get A1", "val {2,5}")
         self.fill("unchoose A1 5")
