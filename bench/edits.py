@@ -1,8 +1,8 @@
 #!/usr/bin/env python3
 """Tells what an edit costs the program in processor time after other lines: the least of several rounds.
 
-edits.py formulas [N]   edits of a cell that nothing refers to, on an empty sheet and beside N formulas on one cell
-edits.py history [N]    10,000 edits of a thousand cells, after 1,000 such edits and after N
+    edits.py formulas [N]   edits of a cell that nothing refers to, on an empty sheet and beside N formulas on one cell
+    edits.py history [N]    10,000 edits of a thousand cells, after 1,000 such edits and after N
 """
 import pathlib
 import random

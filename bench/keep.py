@@ -1,9 +1,9 @@
 #!/usr/bin/env python3
 """Tells what a sheet costs that is kept in a file: `run --keep`, beside `run` where that says something.
 
-keep.py edits [N] [FOLDER]   N edits that come at once: seconds with and without, syncs, and as many syncs by themselves
-keep.py waits [N] [FOLDER]   N edits each of which waits for its reply: the same, for an edit
-keep.py start [N] [FOLDER]   a start over N lines: seconds, lines a second, and memory
+    keep.py edits [N] [FOLDER]   N edits that come at once: seconds with and without, syncs, and as many syncs alone
+    keep.py waits [N] [FOLDER]   N edits that each wait for their reply: the same, for an edit
+    keep.py start [N] [FOLDER]   a start over N lines: seconds, lines a second, and memory
 
 The file is made in the folder, the temporary one where none is given; of times it is the least of three.
 """

@@ -1,5 +1,5 @@
 #!/usr/bin/env python3
-"""Measures an office: so many browsers, each of which edits a cell of its own each second and has a picture of a
+"""Measures an office: so many browsers, which each edit a cell of their own each second, and have a picture of a
 screen after each change. It tells, as a median and as the 99th of a hundred:
 
 - from an edit to its reply;
@@ -9,10 +9,11 @@ and the memory, threads and processor time of all that serves them, also while n
 
 office.py [BROWSERS [SECONDS [FORMER]]]   200 browsers for 20 seconds where it isn't given
 
-They are at one `./sheet serve --keep --seats 256`, and ask what its page asks: they look after an edit of their own,
-and at the news, once in 40 ms at most; now and then they ask who is here, and give a sign of life. FORMER is a program
-that still has `page`: then 56 browsers at most are also measured at four of its servers in a ring, each with a gateway,
-where its page looks five times a second.
+They are at one `./sheet serve --keep --seats 256`, and ask what its page asks. They look after an edit of their own,
+and at the news, once in 40 ms at most. Now and then they ask how many are here, and give a sign of life.
+
+FORMER is a program that still has `page`. Then 56 browsers at most are also measured at four of its servers in a ring,
+each with a gateway. Its page looks five times a second.
 
 The browsers are WebSockets of four processes. It tells the processor time of the busiest, too: near 100 % the times are
 its own.
@@ -172,7 +173,7 @@ class Browser:
         self.live.send(frame(TEXT, f"set {NAMES[self.number]} {self.value}".encode()))
 
     def look(self):
-        """Asks for a picture; where one is under way, once it has come."""
+        """Asks for a picture; where one is under way, after it."""
         self.is_stale = self.looks
         if not self.looks:
             self.looks = True
@@ -190,7 +191,7 @@ class Browser:
         self.look()
 
     def ask_about(self):
-        """Asks who is here."""
+        """Asks how many are here."""
         answer(self.port, request(self.port, path="/about"))
 
     def give_sign(self):
@@ -250,7 +251,7 @@ class Turns:
 
 
 class Client:
-    """The browsers of these numbers, each of which has asked for a first picture."""
+    """The browsers of these numbers, which have each asked for a first picture."""
 
     def __init__(self, ports, numbers, has_news, selector):
         self.edits, self.selector, self.due = Edits(), selector, []

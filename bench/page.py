@@ -2,7 +2,7 @@
 """Measures the page of `./sheet serve`, with Chromium without a window (`tests/browser.py`), and tells:
 
 - how long it takes from a key in one browser to the picture in the other, the median and the longest of CHANGES;
-- the memory of the server before the first browser, and with 16 of them, each of which has asked for a screenful;
+- the memory of the server before the first browser, and with 16 of them, which have each asked for a screenful;
 - frames while one scrolls, by 40 pixels a frame down the sheet, over a full screen of numbers: how many a second, and
   how many took more than 1/30 of a second.
 

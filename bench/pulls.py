@@ -1,7 +1,7 @@
 #!/usr/bin/env python3
 """Pushes sixteen deltas of some 218 KB each at `./sheet run`, and tells how long a pull of sixteen takes beside one.
 
-The forms: `pairs`, no two deltas with a pair in common; `near`, pairs of which nearly all are common, so that no join
+The forms: `pairs`, no two deltas with a pair in common; `near`, pairs that are nearly all common, so that no join
 fits a line and each is only a little too long; `counts`, counters like that; `texts`, other cells in each delta;
 `again`, the same cells in each delta but the first.
 

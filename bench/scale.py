@@ -3,7 +3,7 @@
 
 Each replica is a process of `./sheet run` that has made EDITS changes of its own. In a round each asks one other, by
 chance, for what it has, by `pull <from> 16` until the reply is `end`, and pushes the lines at itself; each line is lost
-by chance. One way it remembers for each other replica how far it has come without a loss, the other way it asks from 0
+by chance. One way it remembers for each other replica how far it got without a loss, the other way it asks from 0
 on each time, as `sync` does. The bytes are those of all delta lines that were sent, the lost ones too.
 
 `bench/scale.py [SEEDS]` takes so many runs of each kind, 3 where it isn't given, and tells their means. It's a
@@ -39,7 +39,7 @@ def edited(program, number):
 
 
 def asked(one, other, begin, chance, loss):
-    """One replica asks another: returns how far it has come without a loss, and the bytes that were sent."""
+    """One replica asks another: returns how far it got without a loss, and the bytes that were sent."""
     reached, sent, is_whole = begin, 0, True
     while True:
         word, version, *line = other.ask(b"pull %d 16" % begin).split(b" ", 2)

@@ -1,11 +1,11 @@
 #!/usr/bin/env python3
 """Tells what a team's day and its year cost: lines, bytes, memory and processor time of a sheet that is kept in a file.
 
-The team is made up, and no team's days were counted. Each of its people makes EDITS changes a day: of twenty 12 put a
-number or a short text into a cell, 4 raise or lower one of 20 counters, 2 vote for an option of the day's poll or take
-it back, and 2 put a formula into a cell. There is one sheet and a replica for each 16 people, 31 at most; the people at
-a replica have two rows each, which they change by chance, and the counters and the polls are everybody's. An office
-keeps what all of them change, day after day, a line for each change, those of a day mixed by chance.
+The team is made up, and no team's days were counted. Each of its people makes EDITS changes a day. Of twenty, 12 put a
+number or a short text into a cell, and 4 raise or lower one of 20 counters. Two vote for an option of the day's poll
+or take it back, and two put a formula into a cell. There is one sheet and a replica for each 16 people, 31 at most.
+The people at a replica have two rows each, which they change by chance. The counters and the polls are everybody's. An
+office keeps what all of them change, day after day, a line for each change, those of a day mixed by chance.
 
 team.py [--people N..] [--days N] [--program FILE] [--folder FOLDER]
 
@@ -16,6 +16,7 @@ of one that takes longer than 2 s; memory is the most that was resident.
 import argparse
 import concurrent.futures
 import functools
+import hashlib
 import os
 import pathlib
 import random
@@ -34,6 +35,7 @@ COUNTERS, OPTIONS = 20, 10
 # The counters are in the first column and the polls in the second one, a row for each day.
 FORMULAS, ENTRIES = range(2, 12), range(12, COLUMNS)
 TEXTS = ("yes", "no", "open", "done", "see below", "ask again", "next week", "Ann and Bob")
+DIGEST = re.compile(rb"replica [0-9a-f]{16}")
 # So many lines are asked at once: these, and the replies to them, fit a pipe.
 AT_ONCE = 500
 ROUNDS, LONG = 3, 2
@@ -207,28 +209,41 @@ def keep(program, lines, file):
     subprocess.run(words, input=lines, stdout=subprocess.DEVNULL, stderr=subprocess.DEVNULL, check=True)
 
 
+def digest_line(text):
+    """The digest that a kept file has after these lines, which are all of it or begin with the last digest."""
+    return b"replica %s\n" % hashlib.md5(text).hexdigest()[:16].encode()
+
+
+def changes(file):
+    """The lines of a kept file without its digests."""
+    return [line for line in file.read_bytes().splitlines() if not DIGEST.fullmatch(line)]
+
+
 def year(program, people, days, folder, told):
     """Makes the office's file of what so many people change in so many days, and tells of it after one day and after
     all of them. Returns how many changes were refused.
 
-    The file is the line of its replica and then the lines of all others. That is what `run --keep` writes that takes
-    them in, which is tried with those of the first day; a start would refuse one that changes nothing.
+    The file is the line of its replica, and then the lines of all others with a digest after each day. A `run --keep`
+    that takes them in writes the same with more digests, as is tried for the first day. A start would refuse a line
+    that changes nothing.
     """
     made, polls = shared_lines(program, days)
     replicas = list(replicas_of(people, folder))
     with concurrent.futures.ThreadPoolExecutor(os.cpu_count()) as pool:
         list(pool.map(lambda replica: replica.write(program, [*made, *polls], days), replicas))
-    file, chance, begin = folder / "office.lines", random.Random(f"team/{people}"), b"replica %d\n" % OFFICE
+    file, chance, digest = folder / "office.lines", random.Random(f"team/{people}"), b"replica %d\n" % OFFICE
     with open(file, "wb") as kept:
-        kept.write(begin)
+        kept.write(digest)
         for day, parts in enumerate(zip(*(replica.days() for replica in replicas)), 1):
             lines = [*(made if day == 1 else ()), polls[day - 1], *mixed(chance, parts)]
-            kept.write(b"".join(line + b"\n" for line in lines))
+            text = b"".join(line + b"\n" for line in lines)
+            digest = digest_line(digest + text)
+            kept.write(text + digest)
             if day == 1:
                 kept.flush()
                 first = folder / "first.lines"
-                keep(program, file.read_bytes().removeprefix(begin), first)
-                assert first.read_bytes() == file.read_bytes()
+                keep(program, text, first)
+                assert changes(first) == changes(file)
                 told(1, first)
     if days > 1:
         told(days, file)

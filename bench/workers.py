@@ -1,9 +1,9 @@
 #!/usr/bin/env python3
 """Tells how long an edit takes by the clock that evaluates a level of N formulas, with one worker and with more.
 
-workers.py sums [N] [WORKERS]    each formula is the sum of the same 40 cells
-workers.py short [N] [WORKERS]   each formula adds 1 to the same cell
-workers.py chain [N] [WORKERS]   each formula adds 1 to the one before: N levels of one formula
+    workers.py sums [N] [WORKERS]    each formula is the sum of the same 40 cells
+    workers.py short [N] [WORKERS]   each formula adds 1 to the same cell
+    workers.py chain [N] [WORKERS]   each formula adds 1 to the one before: N levels of one formula
 """
 import pathlib
 import subprocess

@@ -1,10 +1,10 @@
 #!/usr/bin/env python3
 """Writes the lines of a workload to standard output; the same ones for the same words, on any machine.
 
-bench/workloads.py NAME [SIZE]     NAME as below, SIZE in the workload's unit
-bench/workloads.py                 tells the names, what SIZE counts, and the SIZE where none is given
+bench/workloads.py NAME [SIZE [THERE]]   NAME as below, SIZE in the workload's unit, THERE what is in the sheet before
+bench/workloads.py                       tells the names, what SIZE counts, and the SIZE where none is given
 
-`table`, `accounts` and `above` are tables for `./sheet table`, all others are lines for `./sheet run`.
+`table`, `accounts`, `above` and `newest` are tables for `./sheet table`, all others are lines for `./sheet run`.
 """
 import json
 import random
@@ -37,7 +37,7 @@ def edits(draw, size):
 
 
 def gets(draw, size):
-    """`get` lines over 20,000 cells, of which every fifth is a formula"""
+    """`get` lines over 20,000 cells, every fifth of them a formula"""
     for index in range(20_000):
         yield f"set {at(index)} " + (f"=[.{at(index - 1)}]*2" if index % 5 == 4 else f"{amount(draw)}")
     for _ in range(size):
@@ -45,7 +45,7 @@ def gets(draw, size):
 
 
 def push(draw, size):
-    """lines pushed: a third is new, a third came before, a third is older than what is there"""
+    """lines pushed: a third is new, a third came before, a third is older than the sheet"""
     newest, lines = {}, []
     for index in range(size):
         if index % 3 == 0:
@@ -110,30 +110,70 @@ def fanned(draw, size):
     yield from fan(draw, 0, size)
 
 
-def mixed(draw, size):
-    """formulas entered, as people's: products, an IF, a SUM of some cells; on 20 columns of numbers"""
-    for row in range(ROWS):
-        for column in range(20):
+def numbers(draw, columns, rows=ROWS):
+    """Lines that fill so many columns with small numbers."""
+    for row in range(rows):
+        for column in range(columns):
             yield f"set {name(column, row)} {draw.randrange(1000)}"
+
+
+def usual(draw, index):
+    """A formula as people's over some of 20 columns, of the kind of this index, in the cell of this index below."""
+    column, row = 20 + index // ROWS, index % ROWS
+    one, other = (name(draw.randrange(20), row) for _ in range(2))
+    return f"set {name(column, row)} " + (
+        f"=[.{one}]*[.{other}]", f"=[.{one}]-[.{other}]+{index}", f"=IF([.{one}]>500;[.{other}];0)",
+        f"=SUM([.{name(0, row)}:.{name(5, row)}])")[index % 4]
+
+
+def mixed(draw, size):
+    """formulas entered down the columns, as people's: products, an IF, a SUM of some cells; on 20 columns of numbers"""
+    yield from numbers(draw, 20)
     for index in range(size):
-        column, row = 20 + index // ROWS, index % ROWS
-        one, other = (name(draw.randrange(20), row) for _ in range(2))
-        yield f"set {name(column, row)} " + (
-            f"=[.{one}]*[.{other}]", f"=[.{one}]-[.{other}]+{index}", f"=IF([.{one}]>500;[.{other}];0)",
-            f"=SUM([.{name(0, row)}:.{name(5, row)}])")[index % 4]
+        yield usual(draw, index)
 
 
-def ring():
-    """A chain of 10,000 cells, column by column, which =[.J1000] in A1 makes a circle."""
+def over(draw, size, there=80_000):
+    """formulas put over THERE formulas down the columns, as people's"""
+    yield from mixed(draw, there)
+    for index in range(size):
+        yield usual(draw, index % there)
+
+
+def filled(draw, size):
+    """formulas filled down the columns, all on one cell"""
+    yield "set A1 1"
+    for index in range(size):
+        yield f"set {name(1 + index // ROWS, index % ROWS)} =[.A1]+{index}"
+
+
+def ranged(draw, size):
+    """running totals entered down the columns, each over up to 500 rows of one column of numbers"""
+    yield from numbers(draw, 1)
+    for index in range(size):
+        yield f"set {name(1 + index // 1000, index % 1000)} =SUM([.A$1:.A{2 + index % 499}])"
+
+
+def products(draw, size):
+    """formulas entered down the columns, each a sum of twelve products over 24 columns of numbers"""
+    yield from numbers(draw, 24)
+    for index in range(size):
+        column, row = 24 + index // ROWS, index % ROWS
+        ones = (f"[.{name(2 * pair, row)}]*[.{name(2 * pair + 1, row)}]" for pair in range(12))
+        yield f"set {name(column, row)} ={'+'.join(ones)}"
+
+
+def ring(count=10_000):
+    """A chain of so many cells, column by column, and the formula in A1 that makes a circle of it."""
     yield "set A1 0"
-    for index in range(1, 10_000):
+    for index in range(1, count):
         yield f"set {name(index // 1000, index % 1000)} =[.{name((index - 1) // 1000, (index - 1) % 1000)}]+1"
+    yield f"set A1 =[.{name((count - 1) // 1000, (count - 1) % 1000)}]"
 
 
 def circled(draw, size):
     """numbers set in a cell to which nothing refers, beside a circle of 10,000 formulas"""
     yield from ring()
-    yield "set A1 =[.J1000]"
     for _ in range(size):
         yield f"set Z1 {amount(draw)}"
 
@@ -141,17 +181,38 @@ def circled(draw, size):
 def apart(draw, size):
     """formulas entered, all on one cell, beside a circle of 10,000 formulas that they don't refer to"""
     yield from ring()
-    yield "set A1 =[.J1000]"
     for index in range(size):
         yield f"set {name(30 + index // 1000, index % 1000)} =[.Z1]+{index}"
 
 
+def asked(draw, size, there=10_000):
+    """numbers set in a cell to which a formula refers, beside a circle of THERE formulas"""
+    yield from ring(there)
+    yield "set CB1 =[.CA1]+1"
+    for _ in range(size):
+        yield f"set CA1 {amount(draw)}"
+    yield "get CB1"
+
+
+def closed(draw, size, there=2000):
+    """edits that close a small circle and open it, in turn, beside THERE small ones"""
+    for index in range(there):
+        one, other = (name(column + 2 * (index // 1000), index % 1000) for column in (0, 1))
+        yield f"set {one} =[.{other}]"
+        yield f"set {other} =[.{one}]+1"
+    yield "set CB1 =[.CA1]+1"
+    for index in range(size):
+        yield f"set CA1 {draw.randrange(1000)}" if index % 2 else "set CA1 =[.CB1]"
+    yield "get CB1"
+
+
 def cycles(draw, size):
     """edits that close a circle of 10,000 formulas and open it, in turn, under a total over all of them"""
-    yield from ring()
+    *cells, close = ring()
+    yield from cells
     yield "set K1 =SUM([.A1:.J1000])"
     for index in range(size):
-        yield f"set A1 {draw.randrange(1000)}" if index % 2 else "set A1 =[.J1000]"
+        yield f"set A1 {draw.randrange(1000)}" if index % 2 else close
     yield "get K1"
 
 
@@ -234,16 +295,26 @@ def counters(draw, size):
         yield f"{draw.choice(('add', 'add', 'sub'))} {at(draw.randrange(1000))} {draw.randrange(1, 1000)}"
 
 
-def pairs(draw, size):
-    """options chosen, and pairs pushed, in turn, at a choice of 7,688 pairs of 64 options from 31 other replicas"""
+def poll(replicas):
+    """Lines that make a choice of 256 pairs from each of so many other replicas."""
     yield "set A1 @choice"
-    for replica in range(2, 33):
-        here = sorted((draw.randrange(64), replica, sequence, 0) for sequence in range(1, 249))
-        yield f"push {json.dumps([['A1', None, [], here]], separators=(',', ':'))}"
-    for index in range(size):
-        option, other = draw.randrange(64), index // 2
-        pair = f"[{option},{2 + other % 31},{249 + other // 31},0]"
-        yield f'push [["A1",null,[],[{pair}]]]' if index % 2 else f"choose A1 {option}"
+    for replica in range(2, replicas + 2):
+        pairs = sorted((sequence % 64, replica, sequence, 0) for sequence in range(1, 257))
+        yield f"push {json.dumps([['A1', None, [], pairs]], separators=(',', ':'))}"
+
+
+def chosen(draw, size, there=30):
+    """options chosen at a choice of 256 pairs from each of THERE other replicas"""
+    yield from poll(there)
+    for _ in range(size):
+        yield f"choose A1 {draw.randrange(64)}"
+
+
+def pushed(draw, size, there=30):
+    """pairs pushed at such a choice"""
+    yield from poll(there)
+    for sequence in range(1, size + 1):
+        yield f'push [["A1",null,[],[[{draw.randrange(64)},32,{sequence},0]]]]'
 
 
 def vote(draw, size):
@@ -328,9 +399,60 @@ def above(draw, size):
         yield f"{line[:line.index(',=')]},=SUM([.A{row}:.CV{row}])"
 
 
+def newest(draw, size):
+    """a table of rows of 104 fields, each on the one below, as where the newest stands on top"""
+    for row in range(2, size + 1):
+        yield ",".join(f"=[.{name(column, row - 1)}]+{draw.randrange(1000)}" for column in range(COLUMNS))
+    yield ",".join(f"{draw.randrange(1000)}" for _ in range(COLUMNS))
+
+
 def accounting(draw, size):
     """edits in a table of 1,000 by 100 numbers with these sums, which is entered line by line before"""
     yield from sums(draw, size, 1000, 100)
+
+
+def rate(draw, size, there=20_000):
+    """edits of a rate under THERE products, over which 200 running totals lie"""
+    columns = there // 1000
+    yield "set A1 1"
+    for index in range(there):
+        yield f"set {name(1 + index // 1000, index % 1000)} =[.A1]*{draw.randrange(1, 1000)}"
+    for row in range(5, 1001, 5):
+        yield f"set {name(columns + 1, row)} =SUM([.B$1:.{name(columns, row - 1)}])"
+    for _ in range(size):
+        yield f"set A1 {draw.randrange(1, 1000)}"
+    yield f"get {name(columns + 1, 1000)}"
+
+
+def fault(draw, size, there=100):
+    """edits in a table of 1,000 rows by THERE columns of numbers, with one fault amid them and a total over all"""
+    yield from numbers(draw, there, 1000)
+    yield f"set {name(there // 2, 500)} =QUOTIENT(1;0)"
+    yield f"set {name(there, 0)} =SUM([.A1:.{name(there - 1, 999)}])"
+    for index in range(size):
+        column, row = draw.randrange(there), draw.randrange(1000)
+        yield f"set {name(column, row + (row == 500))} {draw.randrange(1000)}"
+    yield f"get {name(there, 0)}"
+
+
+def outside(draw, size, there=60_000):
+    """edits of a cell below the ranges in its column of THERE such totals"""
+    yield from ranged(draw, there)
+    for _ in range(size):
+        yield f"set A{ROWS} {draw.randrange(1000)}"
+
+
+def ifs(draw, size):
+    """formulas with an IF put into 1,000 cells again and again; the history has all of them"""
+    for index in range(size):
+        row = index % 1000 + 1
+        yield f"set E{row} =IF([.A{row}]>[.B{row}];[.C{row}]*{index};IF([.D{row}]=0;0;{index}))"
+
+
+def deep(draw, size):
+    """formulas of 240 signs before a cell, down the columns"""
+    for index in range(size):
+        yield f"set {name(1 + index // ROWS, index % ROWS)} ={'-' * 240}[.A{index % ROWS + 1}]"
 
 
 SIZES = {
@@ -340,15 +462,28 @@ SIZES = {
     chained: (100_000, "formulas"), fanned: (100_000, "formulas"), mixed: (80_000, "formulas"),
     circled: (1000, "lines"), apart: (200, "formulas"), summed: (400_000, "lines"), unsummed: (400_000, "lines"),
     vote: (100, "people"), replicas: (50_000, "deltas"), accounts: (1000, "rows"), above: (1000, "rows"),
-    accounting: (2000, "edits"), pairs: (400, "lines"),
+    accounting: (2000, "edits"), newest: (800, "rows"), filled: (80_000, "formulas"), over: (8000, "formulas"),
+    products: (30_000, "formulas"), ranged: (30_000, "formulas"), rate: (8, "edits"), fault: (400, "edits"),
+    outside: (400, "edits"), asked: (400, "lines"), closed: (200, "edits"), chosen: (200, "lines"),
+    pushed: (200, "lines"), ifs: (100_000, "formulas"), deep: (30_000, "formulas"),
 }
 NAMES = {workload.__name__: workload for workload in SIZES}
+GROWN = {
+    newest: 266, above: 333, table: 341, filled: 26_666, mixed: 26_666, products: 10_000, ranged: 10_000,
+    chained: 33_333, fanned: 33_333, ifs: 33_333, deep: 10_000,
+}
+"""A third of SIZE, for those workloads where that is what grows."""
+STANDING = {
+    over: (26_666, 80_000), rate: (20_000, 60_000), fault: (33, 100), outside: (20_000, 60_000),
+    asked: (10_000, 50_000), closed: (667, 2000), chosen: (10, 30), pushed: (10, 30),
+}
+"""How much is THERE, little and much, for those workloads that take it."""
 
 
-def lines(workload, size=None):
+def lines(workload, size=None, *there):
     """The lines of the workload of this name, of this size or of its own."""
     it = NAMES[workload]
-    return it(random.Random(workload), size or SIZES[it][0])
+    return it(random.Random(workload), size or SIZES[it][0], *there)
 
 
 def main():
@@ -357,7 +492,7 @@ def main():
         for it, (size, unit) in SIZES.items():
             print(f"{it.__name__:12}{size:>8} {unit:10}{' '.join(it.__doc__.split())}")
     elif sys.argv[1] in NAMES:
-        for line in lines(sys.argv[1], int(sys.argv[2]) if len(sys.argv) > 2 else None):
+        for line in lines(sys.argv[1], *map(int, sys.argv[2:])):
             print(line)
     else:
         sys.exit(__doc__)
