@@ -4,8 +4,8 @@
 The latter needs no kit: it tests the program that `./sheet` links of the released object.
 `./test --wrong` tries the mutants alone, and `./test --wrong CRATE` those of a crate, over what is proved already.
 The last line is `N passed, M failed` over everything that ran, and the exit status is 0 only where nothing failed.
-Tests that want a browser or a broker are left out where there is none, and by `./test --program` those that want git, the
-kit, or the tests of the crates, which `rt ci` builds: then `, K skipped` follows.
+Tests that want a browser or a broker are left out where there is none. `./test --program` also leaves out those that
+want git, the kit, or the tests of the crates, which `rt ci` builds. Then `, K skipped` follows.
 `./test --hunt MINUTES` looks for trouble by chance (`hunt/`, `docs/TESTING.md`), and ends in the same way.
 `./test --list` runs nothing. It prints what each test shows, and the function whose proof each mutant has to break.
 All tests of the program run file by file, each in a process of its own and some side by side.
@@ -30,15 +30,15 @@ from wrong import Fault
 ROWS = ("test_start", "test_transcripts")
 # The files of tests that take longest, which begin first, and those that measure time, which run one after the other
 # once all others have ended.
-LONG = ("test_seats", "test_entries", "test_page_monkey", "test_hunt", "test_page_news")
-ALONE = ("test_page_first", "test_tables", "test_wait", "test_workers")
+LONG = ("test_seats", "test_entries", "test_page_monkey", "test_hunt", "test_page_wire")
+ALONE = ("test_page_start", "test_tables", "test_wait", "test_workers")
 USAGE = (
     "usage: ./test, or ./test --program [TEXT], or ./test --wrong [CRATE], or ./test --list,"
     " or ./test --hunt MINUTES [--seed NUMBER]"
 )
 
 class Tally(NamedTuple):
-    """How many passed, how many failed, and how many were left out for want of what they need."""
+    """How many passed, how many failed, and how many were left out, since what they need is missing."""
 
     passed: int
     failed: int
@@ -57,8 +57,8 @@ class Tally(NamedTuple):
 class Shown(unittest.TestResult):
     """Shows each test once it has ended, below what went wrong in it, and counts.
 
-    A test that is expected to fail counts as failed, and so does one that is skipped, but for these reasons, so that no
-    other is left out.
+    A test that is expected to fail counts as failed. So does one that is skipped for another reason than these, so that
+    no other is left out.
     """
 
     def __init__(self, reasons):
@@ -117,7 +117,7 @@ def failed(why):
 def gate(proved):
     """Runs the merge gate, whose lines are shown as they come, and reads the counts off its last one.
 
-    This is called with the name of each crate that was proved.
+    This is called with the name of each crate that was proved, now or by an earlier run.
     """
     begun = time.monotonic()
     try:
@@ -128,7 +128,7 @@ def gate(proved):
     for last in ran.stdout:
         sys.stdout.buffer.write(last)
         sys.stdout.buffer.flush()
-        found = re.fullmatch(rb"rt: (\w+) proved\n", last)
+        found = re.fullmatch(rb"rt: (\w+) (?:proved|is kept: .*)\n", last)
         if found is not None:
             proved(found[1].decode())
     _, status, used = os.wait4(ran.pid, 0)
@@ -161,7 +161,7 @@ def released():
 
 
 class Process(NamedTuple):
-    """How a process of tests ended: what it said but for its counts, and these; a fault where it said none."""
+    """How a process of tests ended: what it said without its counts, and these; a fault where it said none."""
 
     said: str
     tally: Tally

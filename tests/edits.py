@@ -15,7 +15,7 @@ class Unusable(Exception):
 
 
 class Change(NamedTuple):
-    """A text in the place of another one, in a file of the crate."""
+    """A text that replaces another one, in a file of the crate."""
 
     file: str
     old: str
@@ -74,7 +74,7 @@ class Round(NamedTuple):
 
 
 def rounds(edits, folder):
-    """Divides the edits of the crate in this folder, each of which applies alone, into as few rounds as come of themselves."""
+    """Divides the edits of the crate in this folder, which each apply alone, into as few rounds as come of themselves."""
     found = []
     for edit in edits:
         for place, (others, texts) in enumerate(found):

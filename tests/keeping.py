@@ -43,19 +43,19 @@ class KeepingTest(ProgramTest):
         self.file = self.place / "plan.lines"
 
     def opened(self, count):
-        """What is told once the file was opened with so many changes."""
+        """What is said once the file was opened with so many changes."""
         return lines(f"opened {self.file}, {count} changes")
 
     def warned(self, replica=1):
-        """What is told once the session was pushed changes of its own replica that the file hasn't got."""
+        """What is said once the session was pushed changes of its own replica that the file hasn't got."""
         return lines(f"replica {replica} makes changes elsewhere, too, or lines of {self.file} were lost")
 
     def lost(self, reason=NO_MEMORY):
-        """What is told once the file keeps the sheet no longer."""
+        """What is said once the file keeps the sheet no longer."""
         return lines("err 20 device", f"{self.file} isn't kept any more: {said_of(reason)}")
 
     def damaged(self, number):
-        """What is told of a file whose digest line of this number isn't due there."""
+        """What is said of a file whose digest line of this number isn't due there."""
         return lines("err 14 delta", f"line {number} of {self.file}: it is not the digest of the lines before it")
 
     def run_kept(self, given=b"", *words, **how):
@@ -78,7 +78,7 @@ class KeepingTest(ProgramTest):
         self.assertEqual(self.file.read_bytes(), content)
 
     def lines_kept(self):
-        """What the file has but for its digest lines, which have to be due where they stand."""
+        """What the file has without its digest lines, which have to be due where they stand."""
         return kept.without_digests(self.file.read_bytes())
 
     def count_in_file(self):

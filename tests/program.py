@@ -17,7 +17,7 @@ DEVICE_FAILED = b"err 20 device\n"
 
 
 def said_of(reason):
-    """How a reason is told: for a number of `errno` the system's text, else this one."""
+    """How a reason reads: for a number of `errno` the system's text, else this one."""
     return f"{os.strerror(reason)} (os error {reason})" if isinstance(reason, int) else reason
 
 
@@ -58,7 +58,7 @@ class Ended(NamedTuple):
 
 @contextlib.contextmanager
 def started(*words, program=SHEET, **files):
-    """`./sheet` with these words and standard files, of which nothing runs on once the block is left."""
+    """`./sheet` with these words and standard files, and nothing of it runs on once the block is left."""
     session = subprocess.Popen([program, *words], stderr=subprocess.PIPE, start_new_session=True, **files)
     try:
         yield session

@@ -12,18 +12,18 @@ import peers
 from program import LIMIT, Ended, lines, run, started
 
 HERE = "127.0.0.1"
-# The ports for servers: so many blocks of so many. They are below those that connections are given, one of which could
+# The ports for servers: so many blocks of so many. They are below those that connections are given, and one could
 # take a port between the look at it and its use.
 FIRST_PORT, BLOCK, BLOCKS = 10_000, 100, 180
 # The pause between two tries, in seconds.
 PAUSE = 0.01
-# The threads and files of a server that nobody is at: two threads beside the main one, for those who wait; besides the
-# standard streams and the port, two files by which the main thread sleeps, and three by which the others do.
+# The threads and files of a server that nobody is at. Two threads beside the main one are for those who wait. Besides
+# the standard streams and the port, two files are what the main thread sleeps by, and three what the others do.
 THREADS, FILES = 3, 9
 
 
 class Ports:
-    """Ports in turn, from blocks of which no other process that tests at the same time takes any."""
+    """Ports in turn, from blocks that no other process takes any of that tests at the same time."""
 
     def __init__(self):
         self.lock = threading.Lock()
@@ -177,7 +177,7 @@ def page_of(port):
 
 
 def first_line(file):
-    """The first line of a pipe, of which no byte after it is read."""
+    """The first line of a pipe; no byte after it is read."""
     line = b""
     while not line.endswith(b"\n") and (byte := os.read(file.fileno(), 1)):
         line += byte

@@ -12,7 +12,7 @@ def name(column, row):
 
 
 def pushes(content_of, rows):
-    """Lines that give each cell of these rows the content that is told for its column and row; a line for each row."""
+    """Lines that give each cell of these rows the content that is given for its column and row; a line for each row."""
     for row in rows:
         cells = (f'["{name(column, row)}",[1,2,"{content_of(column, row)}"],[],[]]' for column in range(COLUMNS))
         yield f"push [{','.join(cells)}]"

@@ -1,9 +1,14 @@
 """What one line can take: stack, time and memory. The bounds that `docs/FORMATS.md` tells."""
+import contextlib
+import os
 import subprocess
 import time
 
 import peers
+from browser_socket import TEXT, WebSocket, frame
+from preloaded import PROGRAM
 from program import LIMIT, SHEET, Ended, ProgramTest, lines
+from servers import serving
 from sizes import COLUMNS, LARGEST_TABLE, LONGEST_DELTA, name, pushes
 
 # A sheet of 100,048 cells.
@@ -14,6 +19,8 @@ BOUND = 0.1
 TRIES = 10
 # .. and the longest for a delta line of any length that is refused.
 REFUSED = 0.1
+# How many times the time of a formula beside 20,000 others one beside 80,000 may take.
+GROWTH = 2
 STACK_KB = 2_048
 ENDLESS_KB = 1_024
 # In this the dearest table is refused for what is at fault in it.
@@ -118,7 +125,7 @@ def refused_lines():
 
 class Time(ProgramTest):
     def assert_in_time(self, peer, line, replies, bound=BOUND, expected="(?!err)"):
-        """One of several tries of this line has all its lines of replies within the bound, the first of which is as
+        """One of several tries of this line has all its lines of replies within the bound, the first as
         expected. A `#` in it is another number each time, so that each try has as much to do."""
         tries = []
         while len(tries) < TRIES and min(tries, default=bound) >= bound:
@@ -164,6 +171,68 @@ class Time(ProgramTest):
             for row in (970, 976):
                 whole = sum(range(COLUMNS)) * sum(rows) + number + 7 + row
                 self.assertEqual(peer.ask(f"get CZ{row}"), f"val {whole}")
+
+
+# How many others are at a server, and how often each asks for the whole sheet and reads nothing.
+OTHERS, ASKED = 4, 60
+# The bytes of such a reply, and how many of them a server holds for each, at the most.
+REPLY, HELD = 6_920_000, 4
+
+
+class Beside(ProgramTest):
+    """What others ask for holds up nobody for long, and takes a bounded memory."""
+
+    def setUp(self):
+        with contextlib.ExitStack() as stack:
+            self.server = stack.enter_context(serving(None, program=PROGRAM))
+            self.addCleanup(stack.pop_all().close)
+
+    def fill(self, content):
+        """Has the server fill the sheet with this, except A1's row."""
+        client = self.server.client()
+        for line in pushes(lambda *_: content, range(2, 1_025)):
+            self.assertRegex(client.ask(line), "^ok ")
+        client.leave()
+
+    def test_an_edit_while_others_ask_for_long_tables(self):
+        """Tables of 25 MB are made without the lock: of some edits beside them one at least is quick."""
+        self.fill("=" + "+".join(["[.CZ1024]"] * 25))
+        client, others, tries = self.server.client(), [self.server.client() for _ in range(OTHERS)], []
+        while len(tries) < TRIES and min(tries, default=BOUND) >= BOUND:
+            for other in others:
+                other.send(b"entries A1:CZ1024\n")
+            # (so that they are under way)
+            time.sleep(0.02)
+            begun = time.monotonic()
+            self.assertRegex(client.ask(f"set A1 {len(tries)}"), "^ok ")
+            tries.append(time.monotonic() - begun)
+            for other in others:
+                due = 1 + 1_024
+                while due:
+                    due -= other.connection.recv(1 << 20).count(b"\n")
+        self.assertLess(min(tries), BOUND)
+
+    def test_replies_that_nobody_reads(self):
+        """Of browsers and sessions that ask again and again, a server holds some replies each."""
+        self.fill("'" + "x" * 64)
+        before = self.most()
+        asked = [*((WebSocket(self.server.port, room=4_096), frame(TEXT, b"rows A1:CZ1024")) for _ in range(OTHERS)),
+                 *((self.server.client(room=4_096), b"rows A1:CZ1024\n") for _ in range(OTHERS))]
+        for opened, _ in asked:
+            opened.connection.setblocking(False)
+            self.addCleanup(opened.connection.close)
+        for _ in range(ASKED):
+            for opened, line in asked:
+                with contextlib.suppress(OSError):
+                    opened.connection.send(line)
+            time.sleep(0.02)
+        self.assertGreater(self.most() - before, len(asked) * REPLY)
+        self.assertLess(self.most() - before, len(asked) * REPLY * HELD)
+
+    def most(self):
+        """The most memory that the server had so far, in bytes."""
+        with open(f"/proc/{self.server.session.pid}/status") as status:
+            return next(int(line.split()[1]) for line in status if line.startswith("VmHWM:")) * 1_024
 
 
 # Ranges of so many rows are walked cell by cell, and of longer ones each 57 rows are remembered.
@@ -295,3 +364,38 @@ class Memory(ProgramTest):
         """The most memory that the session had so far, in KB."""
         with open(f"/proc/{peer.session.pid}/status") as status:
             return next(int(line.split()[1]) for line in status if line.startswith("VmHWM:"))
+
+
+def filled_down(count):
+    """Formulas that refer to one cell, entered down the columns from B on."""
+    return [f"set {name(1 + index // 1024, index % 1024 + 1)} =[.A1]*2" for index in range(count)]
+
+
+def of_their_rows(count):
+    """Formulas that refer to two cells of their row, entered down the columns from C on."""
+    rows = (index % 1024 + 1 for index in range(count))
+    return [f"set {name(2 + index // 1024, row)} =[.A{row}]*[.B{row}]" for index, row in enumerate(rows)]
+
+
+class Entered(ProgramTest):
+    """Formulas cost as much beside many others as beside few."""
+    def seconds(self, given):
+        """The least processor time of three sessions with this input."""
+        tries = []
+        for _ in range(3):
+            with subprocess.Popen(
+                [SHEET, "run", "--workers", "1"], stdin=subprocess.PIPE, stdout=subprocess.DEVNULL
+            ) as session:
+                session.stdin.write(given)
+                session.stdin.close()
+                _, status, used = os.wait4(session.pid, 0)
+                session.returncode = os.waitstatus_to_exitcode(status)
+            self.assertEqual(session.returncode, 0)
+            tries.append(used.ru_utime + used.ru_stime)
+        return min(tries)
+
+    def test_a_formula_beside_many_costs_as_much_as_one_beside_few(self):
+        for entered in (filled_down, of_their_rows):
+            with self.subTest(entered.__name__):
+                few, many = (self.seconds(lines(*entered(count))) / count for count in (20_000, 80_000))
+                self.assertLess(many, GROWTH * few)

@@ -1,4 +1,5 @@
 """The comments of the sources: their sentences and words."""
+import ast
 import re
 import unittest
 
@@ -6,25 +7,44 @@ from pages import TURNS, long_sentences, words_of
 from program import TOP
 
 COMMENT = re.compile(r"\s*//[/!]?\s?(.*)")
+# How a comment is written in each kind of source. In C and in scripts of the page, also in several lines.
+FORMS = {".rt": COMMENT, ".js": re.compile(r"\s*(?://|/?\*+/?)\s?(.*?)(?:\*/)?"), ".py": re.compile(r"\s*#!?\s?(.*)")}
+FORMS[".c"] = FORMS[".js"]
+# Where sources are.
+FOLDERS = ("bench", "page", "release", "tests")
 
 
-def comments(text):
+def comments(text, form=COMMENT):
     """The comments of a source, as the text of a page."""
-    found = (COMMENT.fullmatch(line) for line in text.split("\n"))
+    found = (form.fullmatch(line) for line in text.split("\n"))
     return "\n".join(it[1] if it else "" for it in found)
 
 
-def faults(text):
+def docstrings(text):
+    """The texts of a script, its classes and functions, as those of a page."""
+    kinds = (ast.Module, ast.ClassDef, ast.FunctionDef)
+    found = (node for node in ast.walk(ast.parse(text)) if isinstance(node, kinds))
+    return "\n\n".join(ast.get_docstring(node, clean=not isinstance(node, ast.Module)) or "" for node in found)
+
+
+def faults(text, kind=".rt"):
     """What a reader of these comments stumbles over."""
-    said = comments(text)
+    said = comments(text, FORMS[kind]) + ("\n\n" + docstrings(text) if kind == ".py" else "")
     return [*long_sentences(said), *words_of(TURNS, said)]
+
+
+def sources():
+    """All sources whose comments are looked at."""
+    others = (file for part in FOLDERS for file in (TOP / part).rglob("*"))
+    return sorted([*TOP.glob("crates/*/src/**/*.rt"),
+                   *(file for file in others if file.suffix in FORMS and "out" not in file.parts)])
 
 
 class Comments(unittest.TestCase):
     def test_readers_do_not_stumble(self):
-        for source in sorted(TOP.glob("crates/*/src/**/*.rt")):
+        for source in sources():
             with self.subTest(source=str(source.relative_to(TOP))):
-                self.assertEqual(faults(source.read_text()), [])
+                self.assertEqual(faults(source.read_text(), source.suffix), [])
 
 
 class Planted(unittest.TestCase):
@@ -42,3 +62,14 @@ class Planted(unittest.TestCase):
             self.assertEqual(len(faults(text)), 1)
         for text in ("let is_told = told;", "/// `of which`", "/// The lentils of a whichever."):
             self.assertEqual(faults(text), [])
+
+    def test_in_each_kind_of_source(self):
+        for kind, text in (
+            (".js", "/** It is told\n * so. */"), (".js", "  // none but for two\nlet a;"),
+            (".c", "/* It is told so. */"), (".py", "# It is told so."), (".py", 'def f():\n    """It is told so."""'),
+            (".py", 'class A:\n    """Short.\n\n    None but\n    for two."""'),
+        ):
+            self.assertEqual(len(faults(text, kind)), 1, text)
+        for kind, text in ((".js", "const told = 'it is told';"), (".c", 'say("it is told");'),
+                           (".py", 'A = """it is told"""'), (".py", "a = 'it is told'\n")):
+            self.assertEqual(faults(text, kind), [], text)

@@ -10,7 +10,7 @@ from preloaded import PROGRAM
 from program import DEVICE_FAILED, Ended, ProgramTest, lines
 from servers import comes_to, serving
 
-# What is told on standard error, once.
+# What standard error has, once.
 CROWDED = lines("no more connections for now: too many files are open (ulimit -n), or memory is lacking")
 # The longest that a server takes to see that something has changed, in seconds, on a machine that does much else.
 SOON = 30
@@ -94,7 +94,7 @@ class FewFiles(ProgramTest):
                 self.assertEqual(client.ask("set A1 1"), "ok 1")
                 other.send(b"get A1\n")
                 self.assertFalse(other.is_answered_within(1))
-                # who comes and leaves has it look for others
+                # one that comes and leaves has it look for others
                 for _ in range(most):
                     server.client().close()
                 self.assertEqual(other.told(), lines("err 21 seat"))

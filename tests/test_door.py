@@ -56,7 +56,7 @@ class Door(ProgramTest):
         client.close()
 
     def told(self, client, *pieces):
-        """What is told of these pieces; nothing where the last ones come to a connection that is closed already, which
+        """The reply to these pieces; nothing where the last ones come to a connection that is closed already, which
         breaks it off."""
         with contextlib.suppress(ConnectionError):
             for piece in pieces:

@@ -1,4 +1,4 @@
-"""How mutants are read and applied, and how those that are not refused are told."""
+"""How mutants are read and applied, and how those that are not refused are reported."""
 import sys
 import unittest
 from pathlib import Path
@@ -79,7 +79,7 @@ class Order(unittest.TestCase):
 
 class Refused(unittest.TestCase):
     def crate(self):
-        """A crate, no file of which is looked at."""
+        """A crate whose files nobody looks at."""
         return object.__new__(wrong.Crate)
 
     def is_refused(self, said, status=1):

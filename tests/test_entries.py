@@ -157,7 +157,7 @@ class AtAServer(ProgramTest):
                 self.assertEqual(reader.reply(), "entries 200")
                 rows = [reader.reply() for _ in range(200)]
                 full = rows.index(",") if "," in rows else 200
-                # one sheet after another: what is there comes in the order in which it was typed, and stays
+                # one sheet after another: its cells come in the order in which they were typed, and stay
                 begun = [row for row in rows[:full] if row.endswith(",")]
                 self.assertIn(begun, ([], rows[full - 1:full]))
                 self.assertEqual([row for row in rows if row not in begun and row != ","],

@@ -15,7 +15,7 @@ from program import DEVICE_FAILED, LIMIT, SHEET, Ended, ProgramTest, lines, run
 from servers import free_port, serving
 
 FUNCTIONS = "SUM, MIN, MAX, COUNT, IF, MOD, QUOTIENT, ABS, AND, OR, NOT, TRUE, FALSE"
-# Invalid formulas that people write by habit, and what is told of each.
+# Invalid formulas that people write by habit, and what is said of each.
 FORMULAS = (
     ("=A1+1", "A1 is written [.A1]"),
     ("=$B$2", "$B$2 is written [.$B$2]"),
@@ -54,7 +54,7 @@ FORMULAS = (
     ("=", "something is missing at its end"),
     ("=1 2", "a formula is written like =SUM([.A1:.A3])*2"),
 )
-# Entries that are kept as texts and look like something else, and what is told of each; nothing is told of the last.
+# Entries that are kept as texts and look like something else, and what is said of each; nothing is said of the last.
 TEXTS = (
     ("12.50", "12.50 is kept as a text: numbers are whole"),
     ("1,200", "1,200 is kept as a text: numbers have no commas"),
@@ -85,12 +85,12 @@ TEXTS = (
     ("SUMMARY (all)", ""),
     ("", ""),
 )
-# Entries that are refused for their length, the reply, and what is told of it.
+# Entries that are refused for their length, the reply, and what is said of it.
 LENGTHS = (
     ("x" * 71, "err 2 text", "71 bytes of at most 64"),
     ("x" * 513, "err 4 too-long", "513 bytes of at most 512"),
 )
-# What people write by habit into a cell, the reply to it, and what is told of it.
+# What people write by habit into a cell, the reply to it, and what is said of it.
 HABITS = (
     *((entry, "err 3 formula", f"err 3 formula: {hint}") for entry, hint in FORMULAS),
     *((entry, reply, f"{reply}: {hint}") for entry, reply, hint in LENGTHS),
@@ -110,7 +110,7 @@ FULL = (
 )
 NO_CELL, SPACES = "cells are A1 to CZ1024", "one space stands between two words, and none at the end"
 PLAIN_CELL = "a cell is written A1, without brackets and $"
-# Lines that are refused after those, the reply, and what is told.
+# Lines that are refused after those, the reply, and what is said.
 LINES = (
     ("SET A1 5", "err 16 command", "SET is written set"),
     ("walk A1", "err 16 command", "walk is no verb; the verbs are get, set, add, sub, choose, unchoose, rows, entry, "
@@ -168,7 +168,7 @@ class OfLines(ProgramTest):
             told += [f"line {number}: {note}"] if note else []
         ended = run("run", "--explain", given=lines(*given))
         self.assertEqual(ended, Ended(0, lines(*replies), lines(*told)))
-        # and nothing is told where nobody asks
+        # and nothing is said where nobody asks
         self.assertEqual(run("run", given=lines(*given)), Ended(0, lines(*replies)))
 
     def test_the_form_of_each_verb(self):
@@ -254,7 +254,7 @@ class AtATerminal(ProgramTest):
             try:
                 pieces.append(os.read(person, 4096))
             except OSError:
-                # its end is told as a device that is gone
+                # its end is reported as a device that is gone
                 return b"".join(pieces)
 
     def test_hints_are_told_where_a_person_types_and_reads(self):
@@ -275,7 +275,7 @@ def words_with_port(port):
 
 class OfPorts(ProgramTest):
     def assert_told(self, words, told):
-        """These words end as a device that fails, and this line is told of it, with `--explain` and without."""
+        """These words end as a device that fails, and this line is said of it, with `--explain` and without."""
         for more in ((), ("--explain",)):
             self.assertEqual(run(*words, *more), Ended(1, b"", DEVICE_FAILED + lines(told)))
 

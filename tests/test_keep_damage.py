@@ -16,7 +16,7 @@ SEED = 714
 
 
 class Damaged(KeepingTest):
-    """A file of edits, some of which waited for their replies and some of which came at once."""
+    """A file of edits: some waited for their replies, and some came at once."""
 
     def setUp(self):
         super().setUp()

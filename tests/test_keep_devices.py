@@ -40,7 +40,7 @@ class Failing(Spoilt):
         return answered
 
     def one_by_one(self, given, **how):
-        """How a session ends that is asked these lines one after another, as far as they are answered."""
+        """How a session ends that is asked these lines one after another, until one isn't answered."""
         files = {"stdin": subprocess.PIPE, "stdout": subprocess.PIPE}
         with started("run", "--keep", str(self.file), program=PROGRAM, **files, **how) as session:
             with contextlib.suppress(EOFError, BrokenPipeError):

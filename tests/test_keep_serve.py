@@ -34,7 +34,7 @@ class Serve(KeepingTest):
         return serving(sessions, "--keep", str(self.file), *words, program=PROGRAM, **how)
 
     def assert_closed(self, server, opened, count):
-        """It ends well after so many changes, of which it had opened so many, and the file has them all."""
+        """It ends well after so many changes, so many of them opened, and the file has them all."""
         self.assertEqual(server.ended(), Ended(0, lines(f"closed {count}"), self.opened(opened)))
         self.assertEqual(self.count_in_file(), count)
 
@@ -49,7 +49,7 @@ class Serve(KeepingTest):
             self.assert_closed(server, 0, len(first))
         with self.serving(1) as server:
             client = server.client()
-            # (a line that is refused is told to nobody else, and isn't kept)
+            # (a line that is refused is reported to nobody else, and isn't kept)
             client.send(lines("rows A1:D1", "replica", "walk", "add C1 1", "push []", "add A1 1", "pull 6",
                               "unchoose D1 7"))
             self.assertEqual(client.leave(), lines(
@@ -262,7 +262,7 @@ class Failing(Spoilt):
                         self.assertEqual(content[number], f'push [["{cell}",[1,1,"7"],[],[]]]')
 
     def edit_down(self, server, column, edits, answered):
-        """A client that enters a number down a column, as far as it comes."""
+        """A client that enters a number down a column, until it is ended."""
         with server_gone():
             client = Client(server.port)
             for row in range(1, edits + 1):
@@ -464,7 +464,7 @@ class Killed(KeepingTest):
         self.assertTrue(run("run", given=lines(*whole, "rows A1:I1")).output.endswith(ended.output))
 
     def ask_on(self, server, number, turn, answered):
-        """A client that changes a cell of its own again and again, as far as it comes."""
+        """A client that changes a cell of its own again and again, until it is ended."""
         with server_gone():
             client = Client(server.port)
             for count in range(10_000):

@@ -1,4 +1,4 @@
-"""The news of `sheet serve`: a second WebSocket of a page, by which it is told how many changes there are."""
+"""The news of `sheet serve`: a second WebSocket of a page, which says how many changes there are."""
 import contextlib
 import select
 import threading
@@ -13,7 +13,7 @@ from test_seats import Memory
 
 # How many browsers may be told at a time.
 MOST = 512
-# Within how many seconds a change is told, and within how many one that went away is noticed, on a machine that does
+# Within how many seconds a change is reported, and within how many one that went away is noticed, on a machine that does
 # much else.
 SOON, NOTICED = 5, 5
 # Within how many seconds what comes at once comes, on the average.
@@ -113,7 +113,7 @@ class Told(NewsTest):
             self.assertEqual(self.live().ask("set A1 1"), "ok 1\n")
             for news in all_news:
                 self.assertEqual(news.receive()[:8], "version ")
-            # and it isn't counted among those who are here
+            # and it isn't counted among those that are here
             self.assertEqual(answer(self.port, browser_socket.request(self.port, path="/about"))[2], b"1\n\n")
 
     def test_of_a_kept_sheet(self):

@@ -1,11 +1,15 @@
 """Lines that take no memory, and when an edit takes it, by the requests that the program makes.
 
-No clause says that a read, a refused edit, and a change that is made or given up once it is worked out take none. What
-can be seen from outside: lines that take none make no request, however many there are; each request of an edit is one
-whose refusal is the reply to it, so none is made once something has changed; and after a request that was refused
-there is no other. A number that is set in a cell of a plain sheet, and an amount that is added to a counter or taken
-off it, ask for the room of the history alone, which doubles. A pull makes no more for a delta of many cells than for one
-of a single cell, but for the room of its text, which doubles.
+No clause says that a read, a refused edit, and a change that is made or given up once it is worked out take none. This
+can be seen from outside:
+
+- Lines that take none make no request, however many there are.
+- The refusal of each request of an edit is the reply to it, so none is made once something has changed.
+- After a request that was refused there is no other.
+
+A number that is set in a cell of a plain sheet, and an amount that is added to a counter or taken off it, ask for the
+room of the history alone, which doubles. A pull makes no more for a delta of many cells than for one of a single cell,
+except the room of its text, which doubles.
 """
 import math
 
@@ -108,7 +112,7 @@ class Requests(ProgramTest):
     def assert_requests_come_first(self, how, opening, changes, looks, quiet=()):
         """Each request of one of these changes comes before anything changes, and none after one that is refused.
 
-        Each of them makes one, but for those that may be quiet.
+        Each of them makes one, except those that may be quiet.
         """
         before, known = how(opening, looks)()
         for line in changes:

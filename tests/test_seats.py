@@ -1,4 +1,4 @@
-"""The seats of `sheet serve`: they go on from one session to the next, and who finds none waits, and is told so."""
+"""The seats of `sheet serve`: they go on from one session to the next, and one that finds none waits, and hears so."""
 import contextlib
 import resource
 import threading
@@ -71,7 +71,7 @@ def beside(task, count):
 
 
 def turned_away(server):
-    """What a session of lines is told that comes to a server without a free slot."""
+    """The reply to a session of lines at a server without a free slot."""
     client = server.client()
     client.send(b"get A1\n")
     return client.told()
@@ -178,7 +178,7 @@ class Waiting(ProgramTest):
         return True
 
     def is_answered(self, client, line, reply):
-        """Whether a session gets a slot, and this reply to a line; else it is told that there is none."""
+        """Whether a session gets a slot, and this reply to a line; else the reply that there is none."""
         client.send(lines(line))
         client.stop_sending()
         found = client.told()

@@ -513,7 +513,7 @@ class Ends(ProgramTest):
         with serving(100, program=PROGRAM, preexec_fn=bound) as server:
             session = server.client()
             self.assertEqual(session.ask("set A1 5"), "ok 1")
-            # others that say nothing, one of which finds no file left
+            # others that say nothing; one of them finds no file left
             others = [server.client() for _ in range(most)]
             self.assertEqual(others[0].told(), b"")
             # the session that runs goes on
@@ -547,7 +547,7 @@ class Ends(ProgramTest):
                 self.assertEqual(client.ask("get A1"), "val ")
                 other.send(b"get A1\n")
                 self.assertFalse(other.is_answered_within(1))
-                # who comes and leaves has it look for others
+                # one that comes and leaves has it look for others
                 for _ in range(most):
                     server.client().close()
                 self.assertEqual((other.told(), silent.told()), (lines("err 21 seat"), b""))

@@ -9,12 +9,12 @@ import subprocess
 
 from pages import functions, recipes
 from program import LIMIT, NO_GIT, SHEET, TOP, Ended, ProgramTest, lines, run, started, taken
-from servers import HERE, free_port
+from servers import HERE, free_port, serving
 from sizes import COLUMNS, LONGEST_DELTA, name
 
 # What the page has first: the functions that its recipes call.
 FUNCTIONS = functions("docs/USING.md")
-PAGE = (TOP / "docs/USING.md").read_text()
+PAGE, README = (TOP / "docs/USING.md").read_text(), (TOP / "README.md").read_text()
 RECIPES = recipes("docs/USING.md", "bash")
 # How long recipes wait for what goes on beside them, and how long they wait when they are tried again.
 PAUSE, LONGER = "sleep 2 &&\n", "sleep 15 &&\n"
@@ -143,7 +143,7 @@ class Keeping(Pasting):
         self.assert_numbers_are_kept(50_000)
 
     def test_groups_that_the_length_of_a_line_cuts_short(self):
-        """Batches of long texts, of which no two fit a line, each with a few changes after it."""
+        """Batches of long texts, no two of them in a line, each with a few changes after it."""
         given, shown = [], []
         for batch in range(6):
             rows = range(batch * 17 + 1, batch * 17 + 17)
@@ -195,13 +195,46 @@ class Failing(Pasting):
         self.assertEqual(self.paste(given), Ended(0, kept))
 
 
+class Copies(Pasting):
+    """The copy of a running server, and what is made of it, as `docs/USING.md` has them."""
+
+    def test_a_copy_is_a_sheet_again(self):
+        part = re.search(r"^With `backup`.*?^Changes since", PAGE, re.MULTILINE | re.DOTALL)[0]
+        copy, restore = re.findall(r"^    (.*)$", part, re.MULTILINE)
+        (self.place / "backup").mkdir()
+        with serving(None, "--keep", str(self.place / "team.lines")) as server:
+            client = server.client()
+            for number, line in enumerate(("set A1 7", "set B1 @tally", "add B1 3"), 1):
+                self.assertEqual(client.ask(line), f"ok {number}")
+            self.assertEqual(self.paste(copy.replace("7001", str(server.port))), Ended(0, b"copied\n"))
+        [copied] = (self.place / "backup").iterdir()
+        # its name is one as that in the next command
+        named = re.search(r"backup/\S+", restore)[0]
+        self.assertEqual(re.sub(r"\d", "0", f"backup/{copied.name}"), re.sub(r"\d", "0", named))
+        self.assertEqual(self.paste(restore.replace(named, f"backup/{copied.name}")), Ended(0))
+        ended = run("run", "--keep", str(self.place / "restored.lines"), given=b"rows A1:B1\nset A1 8\n")
+        self.assertEqual(ended.output, lines("rows 1", "7,3", "ok 2"))
+
+    def test_no_copy_of_a_server_that_is_gone(self):
+        part = re.search(r"^With `backup`.*?^Changes since", PAGE, re.MULTILINE | re.DOTALL)[0]
+        copy = re.search(r"^    (.*)$", part, re.MULTILINE)[1]
+        (self.place / "backup").mkdir()
+        ended = self.paste(copy.replace("7001", str(free_port())))
+        self.assertEqual((ended.status, ended.output), (1, b""))
+
+    def test_no_recipe_replaces_a_kept_file(self):
+        """What is moved over another file is one of a folder that is shared, which nobody keeps open."""
+        targets = set(re.findall(r"\bmv \S+ (\S+)", README + PAGE))
+        self.assertEqual(targets, {"shared/ann.lines", "shared/bob.lines", "ann/ann.lines", "bob/bob.lines"})
+
+
 class GoingBack(Pasting):
     """The way back of `docs/USING.md`, after a line that makes a cell unusable: it has its last time."""
 
     HOSTILE = """push [["A1",[9007199254740991,7,"'gone"],[],[]]]"""
 
     def kept(self, file, *given, replica=1):
-        """The replies to these lines of a sheet that is kept in this file, and what was told of the file."""
+        """The replies to these lines of a sheet that is kept in this file, and what was said of the file."""
         ended = run("run", "--replica", str(replica), "--keep", str(self.place / file), given=lines(*given))
         self.assertEqual(ended.status, 0, ended)
         return ended.output.decode().splitlines(), ended.error.decode()

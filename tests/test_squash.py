@@ -142,7 +142,7 @@ class Squash(ProgramTest):
                 self.assert_squashed(first[:-1], first)
 
     def test_a_replica_anywhere_else(self):
-        """Which of two lines would hold can't be told, so it is refused as any line that is none of a delta."""
+        """Which of two lines would hold isn't known: it is refused as any line that is none of a delta."""
         good = b'push [["A1",[1,1,"5"],[],[]]]\n'
         for before in (b"replica 1\n", b"replica 2\n", good, b"\n", b"\r\n", DIGESTS[0] + b"\n"):
             for after in (b"", good):
@@ -252,7 +252,7 @@ class Squash(ProgramTest):
         wide = [line.removeprefix("push ").encode() for line in pushes(lambda column, row: LONG, range(1, 25))]
         small = squashed(*wide)
         self.assert_squashed(b"".join(line + b"\n" for line in wide), small)
-        # (one line of all would be as long as these together, but for their brackets)
+        # (one line of all would be as long as these together, without their brackets)
         self.assertEqual(small.count(b"\n"), -(-sum(map(len, wide)) // LONGEST_DELTA))
         fitting = [f'[["{name(k % COLUMNS, k // COLUMNS + 1)}",[1,1,"{k}"],[],[]]]'.encode() for k in range(9000)]
         self.assert_squashed(b"\n".join(fitting), squashed(*fitting))

@@ -62,7 +62,7 @@ class Syncing(ProgramTest):
         return peer
 
     def sync(self, first, second):
-        """How `sheet sync` between these peers ended, both of which are done with it then."""
+        """How `sheet sync` between these peers ended; both are done with it then."""
         ended = run("sync", "--from", str(first.port), "--to", str(second.port))
         for peer in (first, second):
             peer.close()

@@ -163,7 +163,7 @@ class Steps(Talking):
 
 
 class Hints(ProgramTest):
-    """What `run` tells on standard error is told of the same lines at a server."""
+    """What `run` tells on standard error is said of the same lines at a server."""
 
     def test_of_lines(self):
         given = [f"set B1 {entry}" for entry, _, _ in HABITS] + ["", *(line for line, _, _ in LINES)]
@@ -173,7 +173,7 @@ class Hints(ProgramTest):
         with serving(None) as server:
             self.assertEqual(talk(server.port, given, "--explain"), alone)
         with serving(None) as server:
-            # and nothing is told where nobody asks
+            # and nothing is said where nobody asks
             self.assertEqual(talk(server.port, given), alone._replace(error=b""))
 
     def test_a_hint_of_each_refusal(self):
@@ -193,7 +193,7 @@ class Hints(ProgramTest):
 
 
 class AtATerminal(AtATerminalOfRun):
-    """Hints are told where a person types and reads."""
+    """Hints are written where a person types and reads."""
 
     def typed(self, *words, is_terminal):
         with serving(None) as server:
@@ -205,7 +205,7 @@ class AtATerminal(AtATerminalOfRun):
 
 
 class EarlyEnds(Talking):
-    """What ends a session before its input does, and is told on standard error."""
+    """What ends a session before its input does, and what standard error has then."""
 
     def test_a_server_without_a_seat(self):
         with serving(None, "--seats", "1", "--wait", "0") as server:

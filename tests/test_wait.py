@@ -206,5 +206,5 @@ class Waits(ProgramTest):
             writer.send(b"set A1 1\n")
             self.assertEqual(server.ended().status, 1)
             self.assertLess(time.monotonic() - begun, SOON)
-            # what isn't kept is told nobody
+            # what isn't kept is reported to nobody
             self.assertEqual([client.rest() for client in (*waiting, writer)], [b""] * 4)

@@ -60,7 +60,7 @@ class Whole(ProgramTest):
         shutil.copy(TOP / "test", self.top)
         for file in ("__main__.py", "program.py"):
             shutil.copy(TOP / "tests" / file, self.top / "tests")
-        self.use("rt", "echo gate $*", "echo rt: low proved", "echo 7 passed, 0 failed")
+        self.use("rt", "echo gate $*", "echo rt: low proved", "echo rt: high is kept: it is", "echo 7 passed, 0 failed")
         self.use("build")
         self.use_wrong("3, 0")
         self.use_comparison("None")
@@ -106,7 +106,8 @@ class Whole(ProgramTest):
         self.assertEqual((ended.status, ended.output.splitlines()[-1]), (1, last))
 
     def test_all_passes(self):
-        shown = f"gate ci\nrt: low proved\n7 passed, 0 failed\nwrong  low\n{SAME}{PASSED}{AGAIN}15 passed, 0 failed\n"
+        gate = "gate ci\nrt: low proved\nrt: high is kept: it is\n7 passed, 0 failed\n"
+        shown = f"{gate}wrong  low high\n{SAME}{PASSED}{AGAIN}15 passed, 0 failed\n"
         ended = self.start()
         self.assertEqual(ended._replace(output=TOOK.sub("", ended.output)), Ended(0, shown, ""))
         self.assertEqual(TOOK.findall(ended.output), STEPS)

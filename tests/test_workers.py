@@ -50,7 +50,7 @@ class Threads:
         return self.number(0)
 
     def seconds(self):
-        """The processor time of all threads that have ended, and that of the one which took most."""
+        """The processor time of all threads that have ended, and that of the longest one."""
         return self.number(1) / 1e9, self.number(2) / 1e9
 
     def number(self, place):

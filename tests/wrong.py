@@ -1,7 +1,7 @@
 """Tries the mutants (`edits.py`): the prover has to refuse each, over the libraries that the gate has proved.
 
 Those of a crate that change different functions are tried at once, in a copy of the crate, by checks of these functions
-alone; what such a check doesn't refuse is tried once more by itself. What a crate's checks prove is kept between them.
+alone. What such a check doesn't refuse is tried once more by itself. What a crate's checks prove is kept between them.
 What an earlier run on this machine had refused, over the same files, `./test` doesn't try again (`earlier.py`).
 """
 import os
@@ -75,7 +75,7 @@ class Crate:
         (room / "kept").mkdir()
 
     def check(self, trial):
-        """Checks the functions of the round's edits, with its texts in the place of the crate's own."""
+        """Checks the functions of the round's edits, with its texts instead of the crate's own."""
         copy = self.room / "copy"
         shutil.rmtree(copy, ignore_errors=True)
         for part in crates.PARTS:
@@ -126,8 +126,8 @@ class Crate:
 
 
 def tried(top, kit, refusals, name, bodies):
-    """Tries these edits of a crate, but for those whose refusal is stored, and shows what each came to. Returns how many
-    were refused, and how many weren't."""
+    """Tries these edits of a crate, unless their refusal is stored, and shows what each came to. Returns how many were
+    refused, and how many weren't."""
     stored = {it: refusals.file(name, it) for it in bodies}
     left = [it for it in bodies if not stored[it].is_file()]
     faults = {}

@@ -102,7 +102,7 @@ void *realloc(void *old, size_t size)
     return __libc_realloc(old, size);
 }
 
-/* Whether threads wake each other by this file: it is a counter, of which the system takes and gives all eight bytes. */
+/* Whether threads wake each other by this file: it is a counter, whose eight bytes the system moves together. */
 static int is_counter(int file)
 {
     struct stat about;

@@ -1,7 +1,7 @@
 """Entries, contents and what they show ("Refusals", "Entries", "Canonical contents", "Shown values").
 
-A content is a tuple of its kind and what it holds, so that contents are in order as tuples are: blank, numbers, texts
-by their bytes, formulas by the bytes of their canonical texts, tally, choice.
+A content is a tuple of its kind and what it holds, so contents are in order as tuples are. The kinds are blank, number,
+text, formula, tally and choice. Texts go by their bytes, and formulas by the bytes of their canonical texts.
 """
 import functools
 import re

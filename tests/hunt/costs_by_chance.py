@@ -167,7 +167,7 @@ SHAPES = (
     # a fault amid the cells that all count
     (("deep", 0, 10, 1, 1, b"MOD(1;", 1, 0, 0, 1000),
      ("ranges", 0, 900, COLUMNS, 124, b"COUNT", 17, 1, 0, 0, 0, 0, -1, 880), TO_A1),
-    # running totals of all above, each of which changes the next
+    # running totals of all above: each changes the next
     (("number", 0, 0, COLUMNS, 1, 1, 0), ("ranges", 0, 1, COLUMNS, ROWS, b"SUM", 1, 0, 0, 0, 0, 1, 0, -1), TO_A1),
     # a chain, which a line closes to a cycle
     (("refers", 0, 1, COLUMNS, ROWS, b"+", 1, 0, 1, 0, -1), TO_A1, ("edit", 0, 0, b"=[.A80]")),
@@ -216,7 +216,7 @@ def any_part(chance):
 
 
 def other_number(chance, number):
-    """A number in the place of this one."""
+    """A number instead of this one."""
     near = number + chance.of((1, -1, 10, -10)), number * 2, number // 2, -number
     return chance.of((*near, chance.of(EDGES)))
 

@@ -41,7 +41,7 @@ def counts(chance, state):
 
 
 def pairs(chance, state):
-    """The JSON value of pairs, some of which the state has."""
+    """The JSON value of pairs, some of them in the state."""
     found = {(chance.of(OPTIONS), chance.of(REPLICAS), chance.of(SEQUENCES)): chance.of((0, 0, 0, 1))
              for _ in range(chance.of((0, 0, 0, 0, 1, 1, 2, 5)))}
     if state.pairs and chance.once_in(2):

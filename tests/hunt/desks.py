@@ -9,7 +9,7 @@ from .session import Session
 
 
 class Desk:
-    """Sessions on one sheet, each line of which is answered as soon as it is sent."""
+    """Sessions on one sheet: each line is answered as soon as it is sent."""
 
     def __init__(self, count, words, kind=Sheet, kind_of_file=None, kind_of_follower=None):
         self.stand_in = StandIn(kind, *words, kind_of_file=kind_of_file)
@@ -61,7 +61,7 @@ class Desk:
         return self.stand_in.end()._replace(output=b"closed %d\n" % len(self.session.sheet.history))
 
     def kill(self):
-        """Nothing is left of it, but for what it has told on standard error."""
+        """Nothing is left of it, except what it wrote on standard error."""
         return self.stand_in.file.told() if self.stand_in.file else b""
 
 

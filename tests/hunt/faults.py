@@ -35,7 +35,7 @@ class Partial(Sheet):
 
 
 class Lost(Sheet):
-    """A delta of which a part is known is lost."""
+    """A delta is lost, if a part of it is known."""
 
     def receive(self, delta):
         news = [cell for cell, state in delta.items() if deltas.joined(self.state(cell), state) != self.state(cell)]

@@ -73,7 +73,7 @@ class Hunt:
         return None if trouble is None else Find(part, number, plan, trouble)
 
     def first(self, part, most):
-        """The first find among the part's next plans, of which there are so many at most, or nothing."""
+        """The first find among the part's next plans, so many at most, or nothing."""
         finds = (self.compare(part) for _ in range(most))
         return next((find for find in finds if find is not None), None)
 

@@ -1,6 +1,6 @@
 """What operators and functions give ("What operators and functions give").
 
-What a part of a formula is worth is a function of a sheet, of which it asks what a cell shows (`value`) and which cells
+What a part of a formula is worth is a function of a sheet, which it asks what a cell shows (`value`) and which cells
 of a rectangle may hold anything (`cells`). A number is an `int`, and a fault its text.
 """
 import functools
@@ -79,7 +79,7 @@ def chosen(condition, then, other=lambda sheet: 0):
 
 
 def of_all(test, *operands):
-    """AND and OR: the first fault of any, else whether `test` holds of which aren't 0."""
+    """AND and OR: the first fault of any, else whether `test` holds of those that aren't 0."""
     def value(sheet):
         found = [operand(sheet) for operand in operands]
         return next(filter(is_fault, found), int(test(number != 0 for number in found if not is_fault(number))))

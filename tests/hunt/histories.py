@@ -23,7 +23,7 @@ class Wrong(Exception):
 
 
 class Trial(Sheet):
-    """A sheet at some version, of which it is tried what a line would change."""
+    """A sheet at some version, at which it is tried what a line would change."""
 
     def __init__(self, sheet):
         super().__init__(sheet.replica)
@@ -119,7 +119,7 @@ class Judge:
                 self.sent[number] = line.sent
 
     def claim_for_pushes(self):
-        """Gives places to lines that push, of which several may have brought the same."""
+        """Gives places to lines that push. Several may have brought the same."""
         for talk in self.talks:
             for line in talk.lines:
                 number = receipt_of(line)
@@ -131,7 +131,7 @@ class Judge:
                                             if verb_of(it) == b"push" and read_delta(it.text[5:]) == delta)
 
     def claim_unanswered(self):
-        """Gives places that are left to lines that weren't answered, each of which has one at most."""
+        """Gives places that are left to lines that weren't answered, one to each at most."""
         left = [line for talk in self.talks for line in talk.unanswered()]
         talks = {line: talk for talk in self.talks for line in talk.unanswered()}
         texts = {line.text for line in left}
@@ -212,7 +212,7 @@ class Judge:
         return next((it for it in versions if self.history.answer(line.text, it)[0] == line.reply), None)
 
     def about(self, line, least, most):
-        """What is told of a line whose reply is that of none of these versions."""
+        """What is said of a line whose reply is that of none of these versions."""
         versions = sorted({least, most} & {*range(len(self.history.sheets))})
         replies = b" .. ".join(self.history.answer(line.text, it)[0] or b"" for it in versions)
         return (f"{line.text[:300]!r} is answered\n{line.reply[:300]!r}\nwhich is the reply at no version from {least}"

@@ -24,7 +24,7 @@ def digest_line(since):
 
 
 def without_digests(content):
-    """What a file has but for its digest lines, each of which has to be due where it stands.
+    """What a file has without its digest lines. Each of them has to be due where it stands.
 
     A piece after the last line feed goes too if it begins the digest line that is due.
     """
@@ -58,7 +58,7 @@ def deltas_in(content):
 
 
 def told(path, count, elsewhere=None):
-    """What standard error has once this file was opened with so many changes, and once it has come out, if it has, that
+    """What standard error has once this file was opened with so many changes, and once it is known, if it is, that
     this replica makes changes elsewhere, too."""
     opened = b"opened %s, %d changes\n" % (bytes(path), count)
     if elsewhere is None:

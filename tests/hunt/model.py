@@ -108,7 +108,7 @@ class Sheet:
         return self.edit(cell, register=(time + 1, self.replica, content))
 
     def count(self, cell, added, subtracted):
-        """Adds or subtracts, one of which is 0."""
+        """Adds or subtracts: one of both is 0."""
         if not 1 <= added + subtracted <= LARGEST_AMOUNT:
             return contents.AMOUNT
         if self.content(cell) != contents.TALLY:

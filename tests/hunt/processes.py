@@ -126,7 +126,7 @@ class KeptFile:
         session.is_elsewhere = False
 
     def told(self):
-        """What is told on standard error."""
+        """What standard error has."""
         return kept.told(self.path, self.opened, self.session.sheet.replica if self.session.is_elsewhere else None)
 
     def start_of(self, content):

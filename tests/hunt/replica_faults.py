@@ -33,7 +33,7 @@ class LesserReplica(Sheet):
 
 
 class Summed(Sheet):
-    """What comes of a replica's counts is added to what is there."""
+    """What comes of a replica's counts is added to the counts of the sheet."""
 
     def append(self, delta):
         before = {cell: self.state(cell).counts for cell in delta}
@@ -130,7 +130,7 @@ class LosesKept(KeptFile):
 
 
 class NotesLate(KeptFile):
-    """What a line does is noted once the next one has come."""
+    """What a line does is noted once the next one is there."""
 
     late = b""
 

@@ -1,11 +1,11 @@
 """Replicas that edit apart and meet: a plan of a simulated network, and what is wrong with what comes of it.
 
 A replica is a process of the program, with the model's session beside it; each reply has to be that of the model. What
-one replica has is carried to another as delta lines, which wait on their way until the plan delivers, repeats, drops or
-joins them, in any order. A replica that is stopped has kept the lines that it had handed out until then, and once it is
-started they are pushed again before all else; or it keeps itself in a file, of which it goes on as it was, whatever
-ended it. When the network heals, each replica hands all that it has to the next
-one, twice round; then all have to show what the model shows of the join of all lines that were handed out.
+one replica has is carried to another as delta lines, which wait on their way until the plan delivers, repeats, drops
+or joins them, in any order. A replica that is stopped has kept the lines that it had sent until then. Once it is
+started they are pushed again before all else. Or it keeps itself in a file, and goes on by it as it was, whatever
+ended it. When the network heals, each replica sends all that it has to the next one, twice round. Then all have to
+show what the model shows of the join of all lines that were sent.
 """
 import tempfile
 from pathlib import Path
@@ -184,7 +184,7 @@ class Network:
         return len(self.replicas[one].session.sheet.history)
 
     def deliver(self, one, other, place, is_last=True):
-        """Hands over a line that is on its way, of which this is the last time or not."""
+        """Delivers a line that is on its way, for the last time or not."""
         way = self.way(one, other)
         if way and not self.is_cut(one, other) and self.replicas[other].process is not None:
             line = way.pop(place % len(way)) if is_last else way[place % len(way)]
@@ -238,7 +238,7 @@ class Network:
         self.groups = groups
 
     def heal(self):
-        """Joins all groups: what is on its way arrives, all hand on what they have, and all show the same."""
+        """Joins all groups: what is on its way arrives, all send what they have, and all show the same."""
         self.groups = 0
         self.counts["heals"] += 1
         for replica in self.replicas:

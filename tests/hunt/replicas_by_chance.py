@@ -22,7 +22,7 @@ KEPT_STEPS = {"stop": 2, "tear": 3, "start": 3}
 
 
 class Planner:
-    """Makes the steps of a plan over a few cells, most of which are counters or choices at each replica."""
+    """Makes the steps of a plan over a few cells, most of them counters or choices at each replica."""
 
     def __init__(self, chance, replicas):
         self.chance = chance

@@ -40,7 +40,7 @@ def file_of(content=b""):
 
 
 def feed(writes, pieces):
-    """Writes the pieces, each of which is read by itself; a program that has ended reads no more of them."""
+    """Writes the pieces, and each is read by itself; a program that has ended reads no more of them."""
     try:
         for piece in pieces:
             os.write(writes, piece)

@@ -1,4 +1,4 @@
-"""Scripts by chance: lines of a session, each of which is made in the light of what the sheet has come to."""
+"""Scripts by chance: lines of a session, and each is made in the light of what the sheet is by then."""
 from typing import NamedTuple
 
 from sizes import COLUMNS

@@ -97,7 +97,7 @@ class SessionPlanner(Planner):
 
 
 def with_followers(chance, parts, count):
-    """The steps with so many followers among them, some of which write what there is and end."""
+    """The steps with so many followers among them; some write what there is and end."""
     for _ in range(count):
         step = chance.of((("follow", 0, chance.of((1, 1, 5, 20))), ("journal", 0)))
         parts = put_in(chance, parts, step)

@@ -1,8 +1,8 @@
 """Faults by chance: calls of the C library that fail or are cut short, beside scripts and beside sessions.
 
-A program with a fault is started with the library of `calls.c`. What comes is then what `docs/FORMATS.md` allows: a
-call that is cut short changes nothing; a line may be answered that memory is lacking, and then it changes nothing; an
-input that fails is answered up to its last whole line, and of an output that fails a beginning was written.
+A program with a fault is started with the library of `calls.c`. What comes is then what `docs/FORMATS.md` allows. A
+call that is cut short changes nothing. A line may be answered that memory is lacking, and then it changes nothing. An
+input that fails is answered up to its last whole line, and an output that fails has a beginning of what was due.
 """
 import contextlib
 import errno

@@ -74,5 +74,5 @@ class Shrinker:
 
 
 def shrunk(script, holds):
-    """A smaller script of which it still holds."""
+    """A smaller script that still has the trouble."""
     return Shrinker(script, holds).shrunk()

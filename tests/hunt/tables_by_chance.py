@@ -47,7 +47,7 @@ def edge(chance):
 
 
 def table(chance):
-    """The parts of a table by chance: its lines, of which some have bytes changed."""
+    """The parts of a table by chance: its lines, some with bytes changed."""
     text = edge(chance) if chance.once_in(60) else usual(chance)
     if chance.once_in(3):
         for _ in range(chance.randint(1, 6)):

@@ -55,7 +55,7 @@ def wide(chance, _):
 
 
 def chain(chance, _):
-    """Formulas each of which refers to the one before it, in any order, whose last one closes a cycle and opens it."""
+    """Formulas that each refer to the one before, in any order, whose last one closes a cycle and opens it."""
     names = NAMES[chance.of((0, 1, COLUMNS - 1))::COLUMNS][:chance.randint(50, 300)]
     kind = chance.of((b"=[.%s]+1", b"=SUM([.%s];1)", b"=MAX([.%s];0)"))
     links = [b"set %s " % name + kind % other for other, name in zip(names, names[1:])]
@@ -66,7 +66,7 @@ def chain(chance, _):
 
 
 def groups(chance, _):
-    """Deltas of long texts, of which as many are pulled as fit a line."""
+    """Deltas of long texts. As many are pulled as fit a line."""
     long = b"=" + b"+".join([b"[.CZ1024]"] * 25)
     texts = (entries.canonical(entries.entry(chance, [b"CZ1024"])), long, long, long, b"", b"'" + b"x" * 64)
     lines = []

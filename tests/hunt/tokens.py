@@ -17,7 +17,7 @@ class NoFormula(Exception):
 
 
 class Token(NamedTuple):
-    """A token: of which kind it is, its canonical text, and its rectangle where it is a reference or a range."""
+    """A token: its kind, its canonical text, and its rectangle where it is a reference or a range."""
 
     kind: str
     text: bytes
@@ -33,7 +33,7 @@ def corner(text):
 
 
 def token_of(numeral, first, second, name, sign):
-    """The token of which just one of these was found."""
+    """The token, of these just the one that was found."""
     if numeral is not None:
         if int(numeral) > MOST:
             raise NoFormula
