@@ -78,7 +78,7 @@ struct made rattle_alloc(uint64_t size, uint64_t align)
     return made_of(suits_malloc(align) ? malloc(bytes) : aligned_alloc(align, bytes));
 }
 
-/* Gives `size` bytes at a multiple of `align` that begin with what the `old` bytes at `at` held, as far as both reach.
+/* Gives `size` bytes at a multiple of `align` that begin with what the `old` bytes at `at` held, as many as both have.
  * `at` came from one of these two functions with the same alignment, and isn't used any more. After a refusal it is as
  * it was. `realloc` keeps the alignment of `malloc` alone, so a larger one is met by a copy.
  */

@@ -16,7 +16,7 @@ COMMANDS = [[sys.executable, "-B", Path(__file__).with_name("libraries.py")], ["
 
 
 class Shown:
-    """Shows the crates that the work has come to, as `3 of 13 ps_lattice`."""
+    """Shows the crates that the work has reached, as `3 of 13 ps_lattice`."""
 
     def __init__(self, names):
         self.left = {name: number for number, name in enumerate(names, 1)}
