@@ -1,5 +1,6 @@
 """What the tests share: they start the program as a user does, by `./sheet`, and compare the whole of how it ends."""
 import contextlib
+import errno
 import os
 import signal
 import subprocess
@@ -34,6 +35,11 @@ def silent(port):
 def taken(port):
     """What standard error gets of a server whose port another program has."""
     return DEVICE_FAILED + lines(f"port {port}: another program listens on it")
+
+
+def broken(port):
+    """What standard error gets where the connection to this port is reset."""
+    return DEVICE_FAILED + lines(f"port {port}: {said_of(errno.ECONNRESET)}")
 
 
 # Why a test of the page is left out, which `./test` counts as skipped; any other skip counts as failed.

@@ -5,9 +5,9 @@ import subprocess
 import threading
 import time
 
-from program import DEVICE_FAILED, LIMIT, Ended, ProgramTest, lines, run, silent, started
+from program import DEVICE_FAILED, LIMIT, Ended, ProgramTest, broken, lines, run, silent, started
 from servers import HERE, free_port, serving
-from test_sync import UNEXPECTED, FakePeer, in_turn
+from test_sync import UNEXPECTED, FakePeer, closed, in_turn, told
 
 
 def follow(port, *words, **files):
@@ -58,21 +58,24 @@ class Peers(Following):
             with self.subTest(replies=replies):
                 self.assertEqual(follow(self.peer(*replies).port), Ended(0, written))
         # until now not all was written then
-        self.assertEqual(follow(self.peer(b"delta 3 [1]\n").port, "--until-now"), UNEXPECTED._replace(output=lines("push [1]")))
+        peer = self.peer(b"delta 3 [1]\n")
+        self.assertEqual(follow(peer.port, "--until-now"), Ended(3, lines("push [1]"), closed(peer.port)))
 
     def test_replies_that_are_not_due(self):
         for reply in (b"hello\n", b"delta 0 [1]\n", b"delta 3\n", b"end 1\n", b"ok 1\n", b"delta 3 [1]", b"\n"):
             with self.subTest(reply=reply):
-                self.assertEqual(follow(self.peer(reply).port), UNEXPECTED)
-                ended = follow(self.peer(b"delta 3 [1]\n", reply.replace(b"3", b"2")).port)
-                self.assertEqual(ended, UNEXPECTED._replace(output=lines("push [1]")))
+                first, second = self.peer(reply), self.peer(b"delta 3 [1]\n", reply.replace(b"3", b"2"))
+                for peer, written in ((first, b""), (second, lines("push [1]"))):
+                    ended = follow(peer.port)
+                    self.assertEqual(ended, told(UNEXPECTED._replace(output=written), peer))
 
     def test_replies_to_a_wait_that_are_not_due(self):
         for reply in (b"version 2\n", b"version\n", b"version x\n", b"end 3\n", b"delta 4 [1]\n", b"ok 4\n",
                       b"version 4"):
             with self.subTest(reply=reply):
-                ended = follow(self.peer(b"delta 3 [1]\n", b"end 3\n", reply).port)
-                self.assertEqual(ended, UNEXPECTED._replace(output=lines("push [1]")))
+                peer = self.peer(b"delta 3 [1]\n", b"end 3\n", reply)
+                ended = follow(peer.port)
+                self.assertEqual(ended, told(UNEXPECTED._replace(output=lines("push [1]")), peer))
 
     def test_a_line_that_is_too_long(self):
         self.assertEqual(follow(self.peer(b"delta 1 [" + b" " * 300_000 + b"]\n").port), UNEXPECTED)
@@ -147,7 +150,7 @@ class Replicas(Following):
             server.session.kill()
             output, error = follower.communicate(timeout=LIMIT)
             # Where the server had not read a question yet, the system breaks the connection off instead of closing it.
-            self.assertIn(Ended(follower.returncode, output, error), (Ended(0), Ended(1, b"", DEVICE_FAILED)))
+            self.assertIn(Ended(follower.returncode, output, error), (Ended(0), Ended(1, b"", broken(server.port))))
 
     def test_a_reader_that_closes(self):
         with serving(2) as server:

@@ -12,9 +12,9 @@ import time
 
 import preloaded
 from preloaded import PROGRAM
-from program import DEVICE_FAILED, LIMIT, Ended, ProgramTest, lines, run, silent, started
+from program import DEVICE_FAILED, LIMIT, Ended, ProgramTest, broken, lines, run, silent, started
 from servers import HERE, comes_to, free_port, serving
-from test_sync import UNEXPECTED, FakePeer, in_turn
+from test_sync import UNEXPECTED, FakePeer, in_turn, told
 
 FIRST, SECOND, THIRD = (f'[["A{row}",[1,1,"{row}"],[],[]]]' for row in (1, 2, 3))
 # What a fake peer says to a line that has no reply yet.
@@ -57,7 +57,9 @@ class Fakes(ProgramTest):
     def assert_ends(self, ended, first, second):
         """Peers with these replies are joined once, and it ends so."""
         with self.subTest(first=first, second=second):
-            self.assertEqual(self.joined(self.peer(*first), self.peer(*second)), ended)
+            peers = [self.peer(*first), self.peer(*second)]
+            found = self.joined(*peers)
+            self.assertEqual(found, told(ended, *peers))
 
 
 class Requests(Fakes):
@@ -166,7 +168,7 @@ class Faults(Fakes):
         for is_first in (True, False):
             with self.subTest(is_first=is_first), socket.create_server((HERE, 0)) as listener:
                 listener.settimeout(LIMIT)
-                broken = listener.getsockname()[1]
+                port = listener.getsockname()[1]
 
                 def breaks():
                     connection, _ = listener.accept()
@@ -177,9 +179,9 @@ class Faults(Fakes):
                 thread = threading.Thread(target=breaks, daemon=True)
                 thread.start()
                 other = self.peer(b"end 0\n").port
-                ended = joined_once(*(broken, other) if is_first else (other, broken))
+                ended = joined_once(*(port, other) if is_first else (other, port))
                 thread.join(LIMIT)
-                self.assertEqual(ended, Ended(1, b"", DEVICE_FAILED))
+                self.assertEqual(ended, Ended(1, b"", broken(port)))
 
     def test_an_output_that_fails(self):
         reads, writes = os.pipe()
@@ -289,7 +291,8 @@ class Checked(Fakes):
         """Comparing peers with these replies ends so, and each of them is asked for what it has alone."""
         with self.subTest(first=first, second=second):
             peers = [self.peer(*replies) for replies in (first, second)]
-            self.assertEqual(self.compared(*peers), ended)
+            found = self.compared(*peers)
+            self.assertEqual(found, told(ended, *peers))
             for peer in peers:
                 self.assertEqual([line for line in peer.asked if not line.startswith("pull ")], [])
 

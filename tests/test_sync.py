@@ -4,7 +4,7 @@ import socket
 import struct
 import threading
 
-from program import DEVICE_FAILED, LIMIT, Ended, ProgramTest, lines, run, silent
+from program import DEVICE_FAILED, LIMIT, Ended, ProgramTest, broken, lines, run, silent
 from servers import free_port
 
 UNEXPECTED = Ended(3, b"", b"err 15 line\n")
@@ -13,12 +13,13 @@ UNEXPECTED = Ended(3, b"", b"err 15 line\n")
 class FakePeer:
     """Listens on a port of its own, and answers each line of one connection by `reply`, which gives bytes.
 
-    Where it gives none, and after a reply without line feed, the connection is closed. `asked` has the lines that came.
+    Where it gives none, and after a reply without line feed, the connection is closed, and `has_closed` is so. `asked`
+    has the lines that came.
     """
 
     def __init__(self, reply):
         self.reply = reply
-        self.asked = []
+        self.asked, self.has_closed = [], False
         self.listener = socket.create_server(("127.0.0.1", 0))
         self.listener.settimeout(LIMIT)
         self.port = self.listener.getsockname()[1]
@@ -34,10 +35,9 @@ class FakePeer:
                 for line in given:
                     self.asked.append(line.decode().removesuffix("\n"))
                     reply = self.reply(self.asked[-1])
-                    if reply is None:
-                        return
-                    connection.sendall(reply)
-                    if not reply.endswith(b"\n"):
+                    self.has_closed = reply is None or not reply.endswith(b"\n")
+                    connection.sendall(reply or b"")
+                    if self.has_closed:
                         return
 
     def close(self):
@@ -46,6 +46,17 @@ class FakePeer:
             socket.create_connection(("127.0.0.1", self.port), LIMIT).close()
         self.thread.join(LIMIT)
         self.listener.close()
+
+
+def closed(port):
+    """What standard error gets where the peer at this port closes its connection instead of a reply."""
+    return UNEXPECTED.error + lines(f"port {port}: the connection ended")
+
+
+def told(ended, *peers):
+    """The same end; where it is that of a reply that isn't due and one of these peers closed, with its port."""
+    port = next((peer.port for peer in peers if peer.has_closed), None)
+    return ended if port is None or ended.error != UNEXPECTED.error else ended._replace(error=closed(port))
 
 
 def in_turn(*replies):
@@ -122,7 +133,8 @@ class UnexpectedReplies(Syncing):
         """These replies of the first peer end it as `err 15 line`."""
         with self.subTest(replies=replies):
             first, second = self.peer(in_turn(*replies)), self.peer(lambda line: b"ok 1\n")
-            self.assertEqual(self.sync(first, second), UNEXPECTED)
+            ended = self.sync(first, second)
+            self.assertEqual(ended, told(UNEXPECTED, first))
 
     def test_to_a_pull(self):
         self.assert_first_ends(b"hello\n")
@@ -156,7 +168,8 @@ class UnexpectedReplies(Syncing):
             with self.subTest(reply=reply):
                 first = self.peer(in_turn(b"delta 1 []\n"))
                 second = self.peer(in_turn(reply))
-                self.assertEqual(self.sync(first, second), UNEXPECTED)
+                ended = self.sync(first, second)
+                self.assertEqual(ended, told(UNEXPECTED, second))
 
 
 class RefusedRequests(Syncing):
@@ -201,9 +214,10 @@ class Connections(Syncing):
 
             thread = threading.Thread(target=reset, daemon=True)
             thread.start()
-            ended = run("sync", "--from", str(listener.getsockname()[1]), "--to", str(peer.port))
+            port = listener.getsockname()[1]
+            ended = run("sync", "--from", str(port), "--to", str(peer.port))
             thread.join(LIMIT)
-            self.assertEqual(ended, Ended(1, b"", DEVICE_FAILED))
+            self.assertEqual(ended, Ended(1, b"", broken(port)))
 
     def test_a_peer_that_was_reset_before_it_is_pushed_to(self):
         """So that it isn't the reply that fails, but what is sent."""
@@ -217,8 +231,9 @@ class Connections(Syncing):
                 return b"delta 1 []\n"
 
             peer = self.peer(delta)
-            ended = run("sync", "--from", str(peer.port), "--to", str(listener.getsockname()[1]))
-            self.assertEqual(ended, Ended(1, b"", DEVICE_FAILED))
+            port = listener.getsockname()[1]
+            ended = run("sync", "--from", str(peer.port), "--to", str(port))
+            self.assertEqual(ended, Ended(1, b"", broken(port)))
 
     def test_an_output_that_fails(self):
         first, second = self.peer(in_turn(b"end 0\n")), self.peer(in_turn())

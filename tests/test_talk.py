@@ -8,11 +8,11 @@ import threading
 
 from keeping import replies_to
 from peers import at_terminal, on_pipes
-from program import DEVICE_FAILED, LIMIT, SHEET, Ended, ProgramTest, lines, run, silent, started
+from program import DEVICE_FAILED, LIMIT, SHEET, Ended, ProgramTest, broken, lines, run, silent, started
 from servers import HERE, free_port, serving
 from test_explain import HABITS, LINES
 from test_explain import AtATerminal as AtATerminalOfRun
-from test_sync import UNEXPECTED, FakePeer, in_turn
+from test_sync import UNEXPECTED, FakePeer, closed, in_turn, told
 
 # For how long a peer looks whether it is sent more than one line, in seconds.
 LOOK = 0.05
@@ -236,7 +236,8 @@ class EarlyEnds(Talking):
             for reply in replies:
                 with self.subTest(line=line, reply=reply):
                     peer = self.peer(b"val 1\n", reply)
-                    self.assertEqual(talk(peer.port, lines("get A1", line, "get A1")), UNEXPECTED._replace(output=lines("val 1")))
+                    ended = talk(peer.port, lines("get A1", line, "get A1"))
+                    self.assertEqual(ended, told(UNEXPECTED._replace(output=lines("val 1")), peer))
                     self.assertEqual(peer.asked, ["get A1", line])
 
     def test_replies_that_are_due(self):
@@ -261,9 +262,10 @@ class EarlyEnds(Talking):
             self.assertEqual((ended.status, ended.error), (3, UNEXPECTED.error))
 
     def test_a_peer_that_closes_between_two_replies(self):
-        self.assertEqual(talk(self.peer().port, b"get A1\n"), UNEXPECTED)
-        peer = self.peer(b"val 1\n")
-        self.assertEqual(talk(peer.port, b"get A1\nget A2\nget A3\n"), UNEXPECTED._replace(output=lines("val 1")))
+        for replies in ((), (b"val 1\n",)):
+            peer = self.peer(*replies)
+            ended = talk(peer.port, b"get A1\nget A2\nget A3\n")
+            self.assertEqual(ended, Ended(3, b"".join(replies), closed(peer.port)))
         self.assertEqual(peer.asked, ["get A1", "get A2"])
 
     def test_a_peer_that_closes_amid_a_reply(self):
@@ -274,7 +276,7 @@ class EarlyEnds(Talking):
                 peer = self.watchful(b"val 1\n", reply)
                 word = reply.split()[0].decode()
                 ended = talk(peer.port, lines("get A1", f"{word} A1:A3"))
-                self.assertEqual(ended, UNEXPECTED._replace(output=b"val 1\n" + written))
+                self.assertEqual(ended, Ended(3, b"val 1\n" + written, closed(peer.port)))
 
     def test_a_peer_that_resets_the_connection(self):
         with socket.create_server((HERE, 0)) as listener:
@@ -288,7 +290,8 @@ class EarlyEnds(Talking):
 
             thread = threading.Thread(target=reset, daemon=True)
             thread.start()
-            self.assertEqual(talk(listener.getsockname()[1], b"get A1\nget A1\n"), Ended(1, b"", DEVICE_FAILED))
+            port = listener.getsockname()[1]
+            self.assertEqual(talk(port, b"get A1\nget A1\n"), Ended(1, b"", broken(port)))
             thread.join(LIMIT)
 
     def test_a_server_that_is_killed(self):
@@ -299,7 +302,7 @@ class EarlyEnds(Talking):
             peer.send(b"get A1\nget A1\n")
             ended = peer.ended()
             # the system closes the connection, or breaks it off
-            self.assertIn(ended, (UNEXPECTED, Ended(1, b"", DEVICE_FAILED)))
+            self.assertIn(ended, (Ended(3, b"", closed(server.port)), Ended(1, b"", broken(server.port))))
 
     def test_a_port_on_which_nothing_listens(self):
         port = free_port()

@@ -12,6 +12,7 @@ use crate::ends::open_ends;
 use crate::fault::ProgramFault;
 use crate::notice::tell_whole;
 use crate::peers::{PeerStream, peer_of};
+use crate::port::Ports;
 use ps_device::Sink;
 use ps_step::{Step, compare};
 use ps_words::JoinOptions;
@@ -64,7 +65,7 @@ fn status_of_step(step: &Step) -> u8
 ///
 /// Cost: that of [`compare`], and 0.8 MB of memory.
 pub fn check_on<R: Net<Stream = TcpStream>, K: Sink>(
-    rt: &R,
+    ports: Ports<'_, R>,
     alloc: Global,
     options: JoinOptions,
     out: &mut K,
@@ -79,11 +80,11 @@ pub fn check_on<R: Net<Stream = TcpStream>, K: Sink>(
     ensures stopped { IfErr result (λ f. HasNoPort options.from f ⊎ HasNoPort options.to f
         ⊎ (f ≡ Refused Refusal.Memory) ⊎ IsCheckFault f ⊎ (K.failures out.old < K.failures out.new)) }
 {
-    let ends = open_ends(rt, options)?;
+    let ends = open_ends(ports, options)?;
     let step = compare_streams::<Brand, Brand, Brand, Brand>(
         alloc,
-        PeerStream::new(&ends.from.stream),
-        PeerStream::new(&ends.to.stream),
+        PeerStream::new(&ends.from),
+        PeerStream::new(&ends.to),
     )?;
     let line = step.line(alloc)?;
     tell_whole(&line, out)?;

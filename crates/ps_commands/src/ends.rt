@@ -4,7 +4,7 @@ ghost use Rattle.ps_grid.specs.declared.refusal.Refusal.TheVariants.{Memory};
 ghost use Rattle.ps_commands.specs.declared.fault.ProgramFault.TheVariants.{Refused};
 
 use crate::fault::ProgramFault;
-use crate::port::{Connection, PortFault, PortTrouble, open_connection};
+use crate::port::{Connection, PortFault, PortTrouble, Ports, open_connection};
 use ps_grid::Refusal;
 use ps_join::{End, JoinFault};
 use ps_peers::SyncFault;
@@ -18,22 +18,22 @@ const LONGEST_SILENCE: u64 = 60;
 
 /// The connections to the two replicas of a join.
 #[derive(Drop)]
-pub(crate) struct Ends {
+pub(crate) struct Ends<'a> {
     /// the one whose changes go first
-    pub from: Connection,
+    pub from: Connection<'a>,
     /// the other one
-    pub to: Connection,
+    pub to: Connection<'a>,
 }
 
 /// Connects to one port of a join.
-pub(crate) fn open_end<R: Net<Stream = TcpStream>>(
-    rt: &R,
+pub(crate) fn open_end<'a, R: Net<Stream = TcpStream>>(
+    ports: Ports<'a, R>,
     port: u16,
-) -> Result<Connection, PortFault>
+) -> Result<Connection<'a>, PortFault>
     ensures opened { IfOk result (λ connection. connection.port ≡ port) }
     ensures unreached { IfErr result (λ fault. fault.port ≡ port) }
 {
-    match open_connection(rt, port) {
+    match open_connection(ports, port) {
         Ok(connection) => {
             let silence = Some(Duration::from_secs(LONGEST_SILENCE));
             // (if these fail, a peer that vanished is waited for)
@@ -46,19 +46,19 @@ pub(crate) fn open_end<R: Net<Stream = TcpStream>>(
 }
 
 /// Connects to both ports of a join, to the first one first.
-pub(crate) fn open_ends<R: Net<Stream = TcpStream>>(
-    rt: &R,
+pub(crate) fn open_ends<'a, R: Net<Stream = TcpStream>>(
+    ports: Ports<'a, R>,
     options: JoinOptions,
-) -> Result<Ends, PortFault>
+) -> Result<Ends<'a>, PortFault>
     ensures from { IfOk result (λ ends. ends.from.port ≡ options.from) }
     ensures to { IfOk result (λ ends. ends.to.port ≡ options.to) }
     ensures unreached { IfErr result (λ fault. (fault.port ≡ options.from) ⊎ (fault.port ≡ options.to)) }
 {
-    let from = match open_end(rt, options.from) {
+    let from = match open_end(ports, options.from) {
         Ok(from) => from,
         Err(fault) => return Err(fault),
     };
-    match open_end(rt, options.to) {
+    match open_end(ports, options.to) {
         Ok(to) => Ok(Ends { from, to }),
         Err(fault) => Err(fault),
     }
@@ -132,7 +132,7 @@ pub(crate) fn lost_at(port: u16, fault: SyncFault) -> Result<LostEnd, ProgramFau
 }
 
 /// Returns the end at which a join ended. Out of memory no end is lost, and it is `Memory`.
-pub(crate) fn lost_end(ends: &Ends, fault: JoinFault) -> Result<LostEnd, ProgramFault>
+pub(crate) fn lost_end(ends: &Ends<'_>, fault: JoinFault) -> Result<LostEnd, ProgramFault>
     ensures from { fault.end ≡ End.From → IfOk result (λ lost. lost.port ≡ ends.now.from.port) }
     ensures to { fault.end ≡ End.To → IfOk result (λ lost. lost.port ≡ ends.now.to.port) }
     ensures memory { IfErr result (λ f. f ≡ Refused Memory) }

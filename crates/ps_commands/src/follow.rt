@@ -6,7 +6,7 @@ ghost use Rattle.ps_peers.specs.Peers.{PeerView};
 
 use crate::fault::ProgramFault;
 use crate::peers::{PeerStream, peer_of};
-use crate::port::connect;
+use crate::port::{Ports, connect};
 use ps_device::Sink;
 use ps_peers::follow;
 use ps_words::FollowOptions;
@@ -28,7 +28,7 @@ use std::sync::ledger::Ledger;
 ///
 /// Cost: that of [`follow`], and 0.4 MB of memory.
 pub fn follow_on<R: Net<Stream = TcpStream>, K: Sink>(
-    rt: &R,
+    ports: Ports<'_, R>,
     alloc: Global,
     options: FollowOptions,
     out: &mut K,
@@ -45,10 +45,10 @@ pub fn follow_on<R: Net<Stream = TcpStream>, K: Sink>(
         → (K.waiting out.new ≡ []) ⊎ (K.failures out.old < K.failures out.new) }
     ensures calm { OnOk result (K.failures out.new ≡ K.failures out.old) }
 {
-    let stream = connect(rt, options.from)?;
+    let connection = connect(ports, options.from)?;
     follow_stream::<K, Brand, Brand>(
         alloc,
-        PeerStream::new(&stream),
+        PeerStream::new(&connection),
         u64::from(options.after),
         options.until_now,
         out,

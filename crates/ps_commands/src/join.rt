@@ -14,6 +14,7 @@ use crate::fault::ProgramFault;
 use crate::lookout::Lookout;
 use crate::notice::tell_whole;
 use crate::peers::{PeerStream, peer_of};
+use crate::port::Ports;
 use crate::progress::Progress;
 use ps_device::Sink;
 use ps_grid::Refusal;
@@ -61,7 +62,7 @@ fn join_streams_once<I: Ledger, O: Ledger, J: Ledger, P: Ledger>(
 ///
 /// Cost: that of [`join_once`], and 0.8 MB of memory.
 pub fn join_once_on<R: Net<Stream = TcpStream>, K: Sink>(
-    rt: &R,
+    ports: Ports<'_, R>,
     alloc: Global,
     options: JoinOptions,
     out: &mut K,
@@ -75,11 +76,11 @@ pub fn join_once_on<R: Net<Stream = TcpStream>, K: Sink>(
     ensures stopped { IfErr result (λ f. HasNoPort options.from f ⊎ HasNoPort options.to f
         ⊎ (f ≡ Refused Refusal.Memory) ⊎ IsJoinFault f ⊎ (K.failures out.old < K.failures out.new)) }
 {
-    let ends = open_ends(rt, options)?;
+    let ends = open_ends(ports, options)?;
     join_streams_once::<Brand, Brand, Brand, Brand>(
         alloc,
-        PeerStream::new(&ends.from.stream),
-        PeerStream::new(&ends.to.stream),
+        PeerStream::new(&ends.from),
+        PeerStream::new(&ends.to),
     )?;
     tell_whole(b"joined\n", out)
 }
@@ -108,7 +109,7 @@ fn join_streams<R: Clock, W: Write + Drop, I: Ledger, O: Ledger, J: Ledger, P: L
 
 /// Joins two replicas over new connections, until an end is lost, and returns that end. Fails only out of memory.
 fn join_anew<R: Net<Stream = TcpStream> + Clock, W: Write + Drop>(
-    rt: &R,
+    ports: Ports<'_, R>,
     alloc: Global,
     options: JoinOptions,
     progress: &mut Progress<W>,
@@ -116,8 +117,8 @@ fn join_anew<R: Net<Stream = TcpStream> + Clock, W: Write + Drop>(
     ensures lost { IfOk result (λ lost. (lost.port ≡ options.from) ⊎ (lost.port ≡ options.to)) }
     ensures memory { IfErr result (λ f. f ≡ Refused Refusal.Memory) }
 {
-    match open_ends(rt, options) {
-        Ok(ends) => join_ends(rt, alloc, &ends, progress),
+    match open_ends(ports, options) {
+        Ok(ends) => join_ends(ports.rt, alloc, &ends, progress),
         Err(fault) => Ok(unreached_end(fault)),
     }
 }
@@ -126,7 +127,7 @@ fn join_anew<R: Net<Stream = TcpStream> + Clock, W: Write + Drop>(
 fn join_ends<R: Clock, W: Write + Drop>(
     rt: &R,
     alloc: Global,
-    ends: &Ends,
+    ends: &Ends<'_>,
     progress: &mut Progress<W>,
 ) -> Result<LostEnd, ProgramFault>
     ensures lost { IfOk result (λ lost. (lost.port ≡ ends.now.from.port) ⊎ (lost.port ≡ ends.now.to.port)) }
@@ -135,8 +136,8 @@ fn join_ends<R: Clock, W: Write + Drop>(
     let mut lookout = Lookout::new(rt, ends, progress);
     let fault = join_streams::<R, W, Brand, Brand, Brand, Brand>(
         alloc,
-        PeerStream::new(&ends.from.stream),
-        PeerStream::new(&ends.to.stream),
+        PeerStream::new(&ends.from),
+        PeerStream::new(&ends.to),
         &mut lookout,
     )?;
     lost_end(ends, fault)
@@ -152,7 +153,7 @@ struct Ending {
 
 /// Joins two replicas again whenever an end is lost, after a pause, and returns what ends that.
 fn join_again<R: Net<Stream = TcpStream> + Clock, W: Write + Drop>(
-    rt: &R,
+    ports: Ports<'_, R>,
     alloc: Global,
     options: JoinOptions,
     progress: &mut Progress<W>,
@@ -162,12 +163,12 @@ fn join_again<R: Net<Stream = TcpStream> + Clock, W: Write + Drop>(
 {
     let mut losses = 0;
     'losses: while losses < u64::MAX {
-        match join_anew(rt, alloc, options, progress) {
+        match join_anew(ports, alloc, options, progress) {
             Ok(end) => progress.lost(&end),
             Err(fault) => return Ending { fault, losses },
         }
         losses += 1;
-        sleep(rt, progress.next_pause());
+        sleep(ports.rt, progress.next_pause());
     }
     Ending {
         fault: ProgramFault::Refused(Refusal::Device),
@@ -191,7 +192,7 @@ fn join_again<R: Net<Stream = TcpStream> + Clock, W: Write + Drop>(
 ///
 /// Cost: that of [`join`] over each two connections, and 0.8 MB of memory.
 pub fn join_on<R: Net<Stream = TcpStream> + Clock, W: Write + Drop>(
-    rt: &R,
+    ports: Ports<'_, R>,
     alloc: Global,
     options: JoinOptions,
     told: W,
@@ -199,6 +200,6 @@ pub fn join_on<R: Net<Stream = TcpStream> + Clock, W: Write + Drop>(
     ensures { (result ≡ Refused Refusal.Memory) ⊎ (result ≡ Refused Refusal.Device) }
 {
     let mut progress = Progress::new(alloc, told);
-    let Ending { fault, .. } = join_again(rt, alloc, options, &mut progress);
+    let Ending { fault, .. } = join_again(ports, alloc, options, &mut progress);
     fault
 }

@@ -31,6 +31,7 @@
 //! Cost: that of the sessions, or of an import and an export.
 #![tactic(auto)]
 
+mod broken;
 mod check;
 mod elsewhere;
 mod ends;
@@ -56,6 +57,7 @@ mod table;
 mod talk;
 mod unfreed;
 
+pub use broken::{BreakReason, BrokenConnection, ConnectionFault, connection_fault};
 pub use check::check_on;
 pub use elsewhere::{Crowded, KeptObserver, NumberElsewhere, Warner, tell_opened};
 pub use explain::Observer;
@@ -67,7 +69,7 @@ pub use kept::{
 };
 pub use listening::{serve, serve_kept};
 pub use pipe::join_pipe_on;
-pub use port::{PageAddress, PortFault, PortTrouble, port_fault};
+pub use port::{PageAddress, PortFault, PortTrouble, Ports, port_fault};
 pub use relay::{Input, relay_on};
 pub use run::{answer_kept, answer_lines, open_sheet};
 pub use squash::{SquashedFile, squash_kept, squash_on, squash_part_on, tell_left_out};

@@ -18,7 +18,7 @@ const LOOK_PAUSE: u64 = 10;
 #[derive(Drop)]
 pub(crate) struct Lookout<'a, R, W: Write + Drop> {
     rt: &'a R,
-    ends: &'a Ends,
+    ends: &'a Ends<'a>,
     progress: &'a mut Progress<W>,
     /// whether both were joined over these connections
     is_joined: bool,
@@ -28,7 +28,7 @@ impl<'a, R, W: Write + Drop> Lookout<'a, R, W> {
     /// Returns a lookout at these connections, over which nothing was joined yet.
     pub(crate) fn new(
         rt: &'a R,
-        ends: &'a Ends,
+        ends: &'a Ends<'a>,
         progress: &'a mut Progress<W>,
     ) -> Lookout<'a, R, W> {
         Lookout {

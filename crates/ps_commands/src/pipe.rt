@@ -10,6 +10,7 @@ use crate::ends::{Loss, LostEnd, lost_at, open_end};
 use crate::fault::ProgramFault;
 use crate::peers::{PeerStream, peer_of};
 use crate::poller::Poller;
+use crate::port::Ports;
 use crate::progress::Progress;
 use crate::relay::Input;
 use ps_device::{Sink, Source};
@@ -174,7 +175,7 @@ fn pipe<S: Source + Drop, K: Sink + Drop, W: Write + Drop, I: Ledger, O: Ledger>
 ///
 /// Cost: that of [`join`], and 0.8 MB of memory.
 pub fn join_pipe_on<R: Net<Stream = TcpStream>, S: Source + Drop, K: Sink + Drop, W: Write + Drop>(
-    rt: &R,
+    ports: Ports<'_, R>,
     alloc: Global,
     options: PipeOptions,
     input: Input<S>,
@@ -187,9 +188,9 @@ pub fn join_pipe_on<R: Net<Stream = TcpStream>, S: Source + Drop, K: Sink + Drop
         ⊎ (f ≡ Refused Refusal.Device)
         ⊎ ((options.once ≡ true) × IsPipeFault options.is_first (S.remaining input.source) (K.contents out) f)) }
 {
-    let connection = open_end(rt, options.port)?;
+    let connection = open_end(ports, options.port)?;
     let Input { source, file } = input;
-    let Some(mut poller) = Poller::open(rt, alloc, file) else {
+    let Some(mut poller) = Poller::open(ports.rt, alloc, file) else {
         return Err(ProgramFault::Refused(Refusal::Device));
     };
     poller.watch(&connection.stream);
@@ -203,7 +204,7 @@ pub fn join_pipe_on<R: Net<Stream = TcpStream>, S: Source + Drop, K: Sink + Drop
         },
         is_joined: false,
     };
-    let stream = PeerStream::new(&connection.stream);
+    let stream = PeerStream::new(&connection);
     if options.once {
         pipe_once::<S, K, Brand, Brand>(alloc, is_first, source, out, stream)?;
         lookout.joined();
@@ -211,5 +212,6 @@ pub fn join_pipe_on<R: Net<Stream = TcpStream>, S: Source + Drop, K: Sink + Drop
     }
     let fault = pipe::<S, K, W, Brand, Brand>(alloc, source, out, stream, &mut lookout)?;
     lookout.lost(fault)?;
+    ports.broken.forget();
     Err(ProgramFault::Refused(Refusal::Device))
 }

@@ -2,6 +2,7 @@
 ghost use Rattle.std.specs.Prelude.{◌≡◌, IfErr, IfOk};
 ghost use Rattle.ps_commands.specs.Status.{HasNoPort, port_fault_of};
 
+use crate::broken::BrokenConnection;
 use crate::fault::ProgramFault;
 use std::fmt;
 use std::io::ErrorKind;
@@ -79,13 +80,24 @@ pub fn port_fault(fault: &ProgramFault) -> Option<PortFault>
     }
 }
 
+/// Where a command's connections come from, and what notes the first one that breaks.
+#[derive_where(Clone, Copy)]
+pub struct Ports<'a, R> {
+    /// The source of the connections.
+    pub rt: &'a R,
+    /// What notes the first one that breaks.
+    pub broken: &'a BrokenConnection,
+}
+
 /// An open connection to a port of this machine.
 #[derive(Drop)]
-pub(crate) struct Connection {
+pub(crate) struct Connection<'a> {
     /// the stream of the connection
     pub stream: TcpStream,
     /// the port that it was opened to
     pub port: u16,
+    /// what notes that it breaks
+    pub broken: &'a BrokenConnection,
 }
 
 /// Listens on a port of this machine.
@@ -107,18 +119,22 @@ pub(crate) fn listen<R: Net<Listener = TcpListener, Stream = TcpStream>>(
 }
 
 /// Connects to a port of this machine. Asks the system to send each request at once, without waiting for earlier ones.
-pub(crate) fn open_connection<R: Net<Stream = TcpStream>>(
-    rt: &R,
+pub(crate) fn open_connection<'a, R: Net<Stream = TcpStream>>(
+    ports: Ports<'a, R>,
     port: u16,
-) -> Result<Connection, PortFault>
+) -> Result<Connection<'a>, PortFault>
     ensures opened { IfOk result (λ connection. connection.port ≡ port) }
     ensures unreached { IfErr result (λ fault. fault.port ≡ port) }
 {
-    let trouble = match TcpStream::connect(rt, (Ipv4Addr::LOCALHOST, port)) {
+    let trouble = match TcpStream::connect(ports.rt, (Ipv4Addr::LOCALHOST, port)) {
         Ok(stream) => {
             // (if this fails, requests may only arrive later)
             let _ = stream.set_nodelay(true);
-            return Ok(Connection { stream, port });
+            return Ok(Connection {
+                stream,
+                port,
+                broken: ports.broken,
+            });
         }
         Err(error) => match error.kind() {
             ErrorKind::ConnectionRefused => PortTrouble::Silent,
@@ -129,17 +145,14 @@ pub(crate) fn open_connection<R: Net<Stream = TcpStream>>(
 }
 
 /// Connects to a port of this machine, as [`open_connection`] does.
-pub(crate) fn connect<R: Net<Stream = TcpStream>>(
-    rt: &R,
+pub(crate) fn connect<'a, R: Net<Stream = TcpStream>>(
+    ports: Ports<'a, R>,
     port: u16,
-) -> Result<TcpStream, ProgramFault>
+) -> Result<Connection<'a>, ProgramFault>
     ensures { IfErr result (HasNoPort port) }
 {
-    match open_connection(rt, port) {
-        Ok(connection) => {
-            let Connection { stream, .. } = connection;
-            Ok(stream)
-        }
+    match open_connection(ports, port) {
+        Ok(connection) => Ok(connection),
         Err(fault) => Err(ProgramFault::PortFailed(fault)),
     }
 }

@@ -84,7 +84,7 @@ impl<W: Write + Drop> Progress<W> {
 
     /// Tells that both ends have the same changes. The next pause is the first one again, and each line about a lost
     /// end is due again.
-    pub(crate) fn joined(&mut self, ends: &Ends)
+    pub(crate) fn joined(&mut self, ends: &Ends<'_>)
         ensures lines { self.new.lines.items ≡ [] }
         ensures pause { self.new.pause ≡ FIRST_PAUSE }
     {

@@ -8,7 +8,7 @@ use crate::fault::ProgramFault;
 use crate::inlet::Inlet;
 use crate::peers::{PeerStream, peer_of};
 use crate::poller::Poller;
-use crate::port::Connection;
+use crate::port::{Connection, Ports};
 use crate::progress::Progress;
 use ps_device::{Sink, Source};
 use ps_grid::Refusal;
@@ -51,7 +51,7 @@ fn relay_stream<S: Source + Drop, W: Write + Drop, K: Sink, I: Ledger, O: Ledger
 
 /// Relays over a new connection. Returns the end that was lost, or none if all is exchanged.
 fn relay_anew<R: Net<Stream = TcpStream>, S: Source + Drop, W: Write + Drop, K: Sink>(
-    rt: &R,
+    ports: Ports<'_, R>,
     alloc: Global,
     options: RelayOptions,
     inlet: &mut Inlet<S, W>,
@@ -60,18 +60,13 @@ fn relay_anew<R: Net<Stream = TcpStream>, S: Source + Drop, W: Write + Drop, K: 
     ensures attempt { IfOk result (IsAttempt (K.contents out.old) (K.contents out.new)) }
     ensures tried { OnErr result (IsTried (K.contents out.old) (K.contents out.new)) }
 {
-    let server = match open_end(rt, options.server) {
+    let server = match open_end(ports, options.server) {
         Ok(server) => server,
         Err(fault) if options.once => return Err(ProgramFault::PortFailed(fault)),
         Err(fault) => return Ok(Some(unreached_end(fault))),
     };
     inlet.connected(&server.stream);
-    match relay_stream::<S, W, K, Brand, Brand>(
-        alloc,
-        PeerStream::new(&server.stream),
-        inlet,
-        out,
-    )? {
+    match relay_stream::<S, W, K, Brand, Brand>(alloc, PeerStream::new(&server), inlet, out)? {
         Ok(()) => Ok(None),
         Err(RelayFault::Output) => Err(ProgramFault::Refused(Refusal::Device)),
         Err(RelayFault::Server(fault)) if options.once => Err(ProgramFault::from(fault)),
@@ -96,7 +91,7 @@ fn relay_anew<R: Net<Stream = TcpStream>, S: Source + Drop, W: Write + Drop, K: 
 ///
 /// Cost: that of [`relay`] over each connection, and 1.2 MB of memory.
 pub fn relay_on<R: Net<Stream = TcpStream> + Clock, S: Source + Drop, K: Sink, W: Write + Drop>(
-    rt: &R,
+    ports: Ports<'_, R>,
     alloc: Global,
     options: RelayOptions,
     input: Input<S>,
@@ -107,16 +102,20 @@ pub fn relay_on<R: Net<Stream = TcpStream> + Clock, S: Source + Drop, K: Sink, W
         × AreTried losses (K.contents out.old) middle × IsThroughWith middle (K.contents out.new)) }
 {
     let Input { source, file } = input;
-    let Some(poller) = Poller::open(rt, alloc, file) else {
+    let Some(poller) = Poller::open(ports.rt, alloc, file) else {
         return Err(ProgramFault::Refused(Refusal::Device));
     };
     let progress = Progress::new(alloc, told);
     let mut inlet = Inlet::new(alloc, source, poller, progress, options.server)?;
     let mut losses = 0u64;
     'losses: while losses < u64::MAX {
-        match relay_anew(rt, alloc, options, &mut inlet, out)? {
+        match relay_anew(ports, alloc, options, &mut inlet, out)? {
             None => return inlet.ended(),
-            Some(end) => sleep(rt, inlet.lost(&end)),
+            Some(end) => {
+                let pause = inlet.lost(&end);
+                ports.broken.forget();
+                sleep(ports.rt, pause);
+            }
         }
         losses += 1;
     }

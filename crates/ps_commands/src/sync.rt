@@ -9,7 +9,7 @@ ghost use Rattle.ps_commands.specs.declared.fault.ProgramFault.TheVariants.{Refu
 use crate::fault::ProgramFault;
 use crate::notice::tell;
 use crate::peers::{PeerStream, peer_of};
-use crate::port::connect;
+use crate::port::{Ports, connect};
 use ps_device::Sink;
 use ps_peers::sync;
 use ps_words::SyncOptions;
@@ -47,7 +47,7 @@ fn sync_between<I: Ledger, O: Ledger, J: Ledger, P: Ledger>(
 ///
 /// Cost: that of [`sync`], and 0.8 MB of memory.
 pub fn sync_on<R: Net<Stream = TcpStream>, K: Sink>(
-    rt: &R,
+    ports: Ports<'_, R>,
     alloc: Global,
     options: SyncOptions,
     out: &mut K,
@@ -57,8 +57,8 @@ pub fn sync_on<R: Net<Stream = TcpStream>, K: Sink>(
     ensures calm { OnOk result (K.failures out.new ≡ K.failures out.old) }
     ensures untold { IfErr result (λ f. f ≢ Refused Refusal.Device → out.new ≡ out.old) }
 {
-    let first = connect(rt, options.from)?;
-    let second = connect(rt, options.to)?;
+    let first = connect(ports, options.from)?;
+    let second = connect(ports, options.to)?;
     let lines = sync_between::<Brand, Brand, Brand, Brand>(
         alloc,
         PeerStream::new(&first),

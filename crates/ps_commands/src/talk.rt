@@ -6,7 +6,7 @@ ghost use Rattle.ps_peers.specs.Peers.{PeerView};
 
 use crate::fault::ProgramFault;
 use crate::peers::{PeerStream, peer_of};
-use crate::port::connect;
+use crate::port::{Ports, connect};
 use ps_device::{Sink, Source};
 use ps_lines::Watcher;
 use ps_peers::ask_lines;
@@ -28,7 +28,7 @@ use std::sync::ledger::Ledger;
 ///
 /// Cost: that of [`ask_lines`], and 0.4 MB of memory.
 pub fn talk_on<R: Net<Stream = TcpStream>, I: Source + Drop, K: Sink, W: Watcher>(
-    rt: &R,
+    ports: Ports<'_, R>,
     alloc: Global,
     options: TalkOptions,
     input: I,
@@ -44,8 +44,8 @@ pub fn talk_on<R: Net<Stream = TcpStream>, I: Source + Drop, K: Sink, W: Watcher
         → (K.waiting out.new ≡ []) ⊎ (K.failures out.old < K.failures out.new) }
     ensures calm { OnOk result (K.failures out.new ≡ K.failures out.old) }
 {
-    let stream = connect(rt, options.to)?;
-    talk_stream::<I, K, W, Brand, Brand>(alloc, PeerStream::new(&stream), input, out, watcher)
+    let connection = connect(ports, options.to)?;
+    talk_stream::<I, K, W, Brand, Brand>(alloc, PeerStream::new(&connection), input, out, watcher)
 }
 
 /// Asks the server at the other end of a connection.

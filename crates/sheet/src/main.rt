@@ -36,10 +36,11 @@ use crate::terminal::ShownOutput;
 use clap::Error;
 use clap::error::ErrorKind;
 use ps_commands::{
-    Input, KeptName, KeptObserver, Observer, ProgramFault, answer_kept, answer_lines, check_on,
-    follow_on, join_on, join_once_on, join_pipe_on, leave_unfreed, lost_file, open_kept_sheet,
-    port_fault, relay_on, serve, serve_kept, squash_kept, squash_on, squash_part_on, status_of,
-    sync_on, table_on, talk_on, tell_left_out, tell_opened,
+    BrokenConnection, Input, KeptName, KeptObserver, Observer, Ports, ProgramFault, answer_kept,
+    answer_lines, check_on, connection_fault, follow_on, join_on, join_once_on, join_pipe_on,
+    leave_unfreed, lost_file, open_kept_sheet, port_fault, relay_on, serve, serve_kept,
+    squash_kept, squash_on, squash_part_on, status_of, sync_on, table_on, talk_on, tell_left_out,
+    tell_opened,
 };
 use ps_device::{ConsoleOutput, Reading, Sink, Writing};
 use ps_eval::Meter;
@@ -158,32 +159,37 @@ fn run_command<
         + Sync,
 >(rt: &HostRuntime, threads: &R, options: Options<'_>) -> Result<ExitCode, ProgramFault> {
     let counts = Counts::new();
+    let broken = BrokenConnection::new();
+    let ports = Ports {
+        rt: threads,
+        broken: &broken,
+    };
     let done = match options {
         Options::Join(options) if options.check => {
-            check_ends::<R, Brand>(rt, threads, counts, options)
+            check_ends::<R, Brand>(rt, ports, counts, options)
         }
-        _ => match on_standard::<R, Brand, Brand, Brand, Brand>(rt, threads, counts, options) {
+        _ => match on_standard::<R, Brand, Brand, Brand, Brand>(rt, ports, counts, options) {
             Ok(()) => Ok(ExitCode::SUCCESS),
             Err(fault) => Err(fault),
         },
     };
     match done {
         Ok(code) => Ok(code),
-        Err(fault) => Ok(report(rt, &fault)),
+        Err(fault) => Ok(report_command(rt, &fault, &broken)),
     }
 }
 
 /// Compares two replicas, and returns the exit status that says whether they hold the same.
 fn check_ends<R: Net<Stream = TcpStream>, O: Ledger>(
     rt: &HostRuntime,
-    threads: &R,
+    ports: Ports<'_, R>,
     counts: Counts,
     options: JoinOptions,
 ) -> Result<ExitCode, ProgramFault>
     requires output { IsBlankOf counts.output O.name O.parts }
 {
     let mut sink = console::<O>(rt, counts.output)?;
-    let status = check_on(threads, rt.alloc(), options, &mut sink)?;
+    let status = check_on(ports, rt.alloc(), options, &mut sink)?;
     Ok(ExitCode::from(status))
 }
 
@@ -194,6 +200,15 @@ fn report(rt: &HostRuntime, fault: &ProgramFault) -> ExitCode {
         let _ = eprintln!(rt; "{port}");
     }
     ExitCode::from(status_of(fault))
+}
+
+/// Reports what ended a command early. If a connection did, a line below says which one, and why.
+fn report_command(rt: &HostRuntime, fault: &ProgramFault, broken: &BrokenConnection) -> ExitCode {
+    let code = report(rt, fault);
+    if let Some(connection) = connection_fault(fault, broken) {
+        let _ = eprintln!(rt; "{connection}");
+    }
+    code
 }
 
 /// Runs a command on standard input and output. The blanks of `counts` count its failures and its work.
@@ -211,12 +226,18 @@ fn on_standard<
     O: Ledger,
     H: Ledger,
     M: Ledger,
->(rt: &HostRuntime, threads: &R, counts: Counts, options: Options<'_>) -> Result<(), ProgramFault>
+>(
+    rt: &HostRuntime,
+    ports: Ports<'_, R>,
+    counts: Counts,
+    options: Options<'_>,
+) -> Result<(), ProgramFault>
     requires input { IsBlankOf counts.input I.name I.parts }
     requires output { IsBlankOf counts.output O.name O.parts }
     requires held { IsBlankOf counts.held H.name H.parts }
     requires evaluations { IsBlankOf counts.evaluations M.name M.parts }
 {
+    let threads = ports.rt;
     match options {
         Options::Run(options) => match options.keep {
             Some(path) => run_kept::<R, I, O, H, M>(rt, threads, counts, options, path),
@@ -230,19 +251,19 @@ fn on_standard<
         }
         Options::Sync(options) => {
             let mut sink = console::<O>(rt, counts.output)?;
-            sync_on(threads, rt.alloc(), options, &mut sink)
+            sync_on(ports, rt.alloc(), options, &mut sink)
         }
         Options::Join(options) if options.once => {
             let mut sink = console::<O>(rt, counts.output)?;
-            join_once_on(threads, rt.alloc(), options, &mut sink)
+            join_once_on(ports, rt.alloc(), options, &mut sink)
         }
-        Options::Join(options) => Err(join_on(threads, rt.alloc(), options, rt.stderr())),
+        Options::Join(options) => Err(join_on(ports, rt.alloc(), options, rt.stderr())),
         Options::Pipe(options) => {
             let source = Reading::<_, I>::new(rt.reader(), counts.input);
             let file = rt.stdin().as_raw_fd();
             let sink = console::<O>(rt, counts.output)?;
             join_pipe_on(
-                threads,
+                ports,
                 rt.alloc(),
                 options,
                 Input { source, file },
@@ -255,7 +276,7 @@ fn on_standard<
             let file = rt.stdin().as_raw_fd();
             let mut sink = console::<O>(rt, counts.output)?;
             relay_on(
-                threads,
+                ports,
                 rt.alloc(),
                 options,
                 Input { source, file },
@@ -265,9 +286,9 @@ fn on_standard<
         }
         Options::Follow(options) => {
             let mut sink = console::<O>(rt, counts.output)?;
-            follow_on(threads, rt.alloc(), options, &mut sink)
+            follow_on(ports, rt.alloc(), options, &mut sink)
         }
-        Options::Talk(options) => talk_lines::<R, I, O>(rt, threads, counts, options),
+        Options::Talk(options) => talk_lines::<R, I, O>(rt, ports, counts, options),
         Options::Squash(options) => match options.keep {
             Some(path) => {
                 let mut meter = Meter::<M>::new(counts.evaluations);
@@ -441,7 +462,7 @@ fn serve_sessions<
 /// Asks a server the lines of standard input, and writes its replies on standard output, with hints on standard error.
 fn talk_lines<R: Net<Stream = TcpStream>, I: Ledger, O: Ledger>(
     rt: &HostRuntime,
-    threads: &R,
+    ports: Ports<'_, R>,
     counts: Counts,
     options: TalkOptions,
 ) -> Result<(), ProgramFault>
@@ -452,14 +473,7 @@ fn talk_lines<R: Net<Stream = TcpStream>, I: Ledger, O: Ledger>(
     let mut sink = console::<O>(rt, counts.output)?;
     let told = is_explained(rt, options.explain).then_some(rt.stderr());
     let mut observer = Observer::new(rt.alloc(), told);
-    talk_on(
-        threads,
-        rt.alloc(),
-        options,
-        source,
-        &mut sink,
-        &mut observer,
-    )
+    talk_on(ports, rt.alloc(), options, source, &mut sink, &mut observer)
 }
 
 /// Takes in the table of standard input, and writes that of its sheet on standard output; then hints on standard error.
