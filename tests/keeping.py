@@ -12,7 +12,8 @@ from program import LIMIT, Ended, ProgramTest, lines, said_of, started
 NOTHING = ["s", 0, 0, 0]
 ALL = shortages.ALL
 # Why a file keeps a sheet no longer, where no call of the system failed.
-DISPLACED = "it was removed, replaced or cut, or another program wrote to it"
+UNNAMED = "it was removed or replaced"
+RESIZED = "it was cut, or another program wrote to it"
 NO_MEMORY = "there is no memory for its lines"
 
 

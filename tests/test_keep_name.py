@@ -6,7 +6,7 @@ from itertools import product
 
 import peers
 from hunt import kept
-from keeping import DISPLACED, KeepingTest, replies_to, text_of
+from keeping import RESIZED, UNNAMED, KeepingTest, replies_to, text_of
 from preloaded import PROGRAM
 from program import LIMIT, Ended, lines, run, started
 from servers import free_port, serving
@@ -76,9 +76,9 @@ class Taken(Beside):
         """Another program does this to the file."""
         subprocess.run(["sh", "-c", script, "sh", self.file, self.other], check=True, timeout=LIMIT)
 
-    def assert_not_acknowledged(self, command, script):
-        """After this no line is answered, and it ends. Returns what the name led to meanwhile, what it leads to now,
-        and what the file has that was there."""
+    def assert_not_acknowledged(self, command, script, reason):
+        """After this no line is answered, and it ends for this reason. Returns what the name led to meanwhile, what it
+        leads to now, and what the file has that was there."""
         with self.keeping(command) as (peer, ended):
             self.assert_answered(peer, *FIRST)
             with self.file.open("rb") as was:
@@ -87,7 +87,7 @@ class Taken(Beside):
                 peer.send(lines(*THEN))
                 with self.assertRaises((EOFError, ConnectionError)):
                     peer.reply()
-                self.assertEqual(ended(), Ended(1, b"", self.opened(0) + self.lost(DISPLACED)))
+                self.assertEqual(ended(), Ended(1, b"", self.opened(0) + self.lost(reason)))
                 return left, self.content(), was.read()
 
     def content(self):
@@ -98,7 +98,7 @@ class Taken(Beside):
         """What was acknowledged is in the file that was there, and the other one stays as it is."""
         for command, name in product(COMMANDS, REPLACED):
             with self.case(command=command, name=name):
-                left, now, was = self.assert_not_acknowledged(command, REPLACED[name])
+                left, now, was = self.assert_not_acknowledged(command, REPLACED[name], UNNAMED)
                 self.assertEqual(now, left)
                 self.assertEqual(kept.without_digests(was), text_of(*FIRST))
 
@@ -106,19 +106,19 @@ class Taken(Beside):
         """It has what the other program left, and isn't cut."""
         for command, name in product(COMMANDS, CHANGED):
             with self.case(command=command, name=name):
-                left, now, was = self.assert_not_acknowledged(command, CHANGED[name])
+                left, now, was = self.assert_not_acknowledged(command, CHANGED[name], RESIZED)
                 self.assertTrue(now.startswith(left))
                 added = kept.without_any_digests(now[len(left):])
                 self.assertEqual(added, text_of(*FIRST, *THEN)[len(text_of(*FIRST)):])
                 self.assertEqual(was, now)
 
     def test_the_next_start_after_a_removal_begins_anew(self):
-        self.assert_not_acknowledged("serve", REPLACED["removed"])
+        self.assert_not_acknowledged("serve", REPLACED["removed"], UNNAMED)
         self.assert_kept(b"get A1\n", b"val \n", text_of())
 
     def test_the_next_start_after_a_move_has_the_other_file(self):
         self.other.write_bytes(FOREIGN)
-        self.assert_not_acknowledged("run", REPLACED["another one moved over it"])
+        self.assert_not_acknowledged("run", REPLACED["another one moved over it"], UNNAMED)
         self.assert_kept(b"get B1\n", b"val 8\n", FOREIGN, 1)
 
     def test_a_file_that_is_all_there_somewhere(self):
@@ -142,7 +142,7 @@ class Taken(Beside):
             self.file.unlink()
             one.send(lines(*THEN))
             self.assertEqual([client.told() for client in (one, silent, asking)], [b""] * 3)
-            self.assertEqual(server.ended(), Ended(1, b"", self.opened(0) + self.lost(DISPLACED)))
+            self.assertEqual(server.ended(), Ended(1, b"", self.opened(0) + self.lost(UNNAMED)))
 
     def test_amid_lines_that_come_at_once(self):
         """The file that was there has just what was answered."""
@@ -157,7 +157,7 @@ class Taken(Beside):
                     self.file.unlink()
                     rest, error = session.communicate(timeout=LIMIT)
                     answered += rest
-                    self.assertEqual((session.returncode, error), (1, self.opened(0) + self.lost(DISPLACED)))
+                    self.assertEqual((session.returncode, error), (1, self.opened(0) + self.lost(UNNAMED)))
                     count = answered.count(b"\n")
                     self.assertLess(count, len(given))
                     self.assertEqual(answered, lines(*(f"ok {number}" for number in range(1, count + 1))))

@@ -33,8 +33,10 @@ pub enum FileCause {
     NotRegular,
     /// It lost its name while it was opened.
     Removed,
-    /// While it was kept open it lost its name, or got another length than was written.
-    Displaced,
+    /// While it was kept open it lost its name.
+    Unnamed,
+    /// While it was kept open it got another length than was written.
+    Resized,
     /// The system gave no reason.
     Unknown,
 }
@@ -48,10 +50,8 @@ impl fmt::Display for FileCause {
             }
             FileCause::NotRegular => write!(f, "it is no regular file"),
             FileCause::Removed => write!(f, "it was removed meanwhile"),
-            FileCause::Displaced => write!(
-                f,
-                "it was removed, replaced or cut, or another program wrote to it"
-            ),
+            FileCause::Unnamed => write!(f, "it was removed or replaced"),
+            FileCause::Resized => write!(f, "it was cut, or another program wrote to it"),
             FileCause::Unknown => write!(f, "it can't be read or written"),
         }
     }
@@ -244,11 +244,15 @@ impl KeptFile {
     /// comes later, or that leaves the length as it was.
     fn is_in_place(&self) -> bool {
         match self.file.metadata() {
-            Ok(about) if about.nlink() > 0 && about.len() == self.end => true,
-            Ok(_) => {
-                self.reason.note(FileCause::Displaced);
+            Ok(about) if about.nlink() == 0 => {
+                self.reason.note(FileCause::Unnamed);
                 false
             }
+            Ok(about) if about.len() != self.end => {
+                self.reason.note(FileCause::Resized);
+                false
+            }
+            Ok(_) => true,
             Err(error) => {
                 self.reason.note_error(&error);
                 false

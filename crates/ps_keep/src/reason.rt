@@ -13,9 +13,11 @@ const NOT_REGULAR: i32 = -1;
 
 const REMOVED: i32 = -2;
 
-const DISPLACED: i32 = -3;
+const UNNAMED: i32 = -3;
 
-const UNKNOWN: i32 = -4;
+const RESIZED: i32 = -4;
+
+const UNKNOWN: i32 = -5;
 
 /// The reason of the first call of a file that failed, shared by the file and by whoever reports it. A
 /// [`Failed`](ps_device::Failed) has none.
@@ -47,7 +49,8 @@ impl FailureReason {
             FileCause::System(code) if code > NONE => code,
             FileCause::NotRegular => NOT_REGULAR,
             FileCause::Removed => REMOVED,
-            FileCause::Displaced => DISPLACED,
+            FileCause::Unnamed => UNNAMED,
+            FileCause::Resized => RESIZED,
             FileCause::System(_) | FileCause::Unknown => UNKNOWN,
         };
         let _ = self
@@ -66,7 +69,8 @@ impl FailureReason {
             NONE => None,
             NOT_REGULAR => Some(FileCause::NotRegular),
             REMOVED => Some(FileCause::Removed),
-            DISPLACED => Some(FileCause::Displaced),
+            UNNAMED => Some(FileCause::Unnamed),
+            RESIZED => Some(FileCause::Resized),
             code if code > NONE => Some(FileCause::System(code)),
             _ => Some(FileCause::Unknown),
         }
