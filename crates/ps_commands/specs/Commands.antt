@@ -1,5 +1,5 @@
 -- What the commands begin with, and what they write.
-use Rattle.std.specs.Prelude.{◌≡◌, ◌⊎◌, ◌==◌, ◌∷◌, ◌++◌, ℕ, zero, suc, Bool, false, true, List, [], Option, None, Some}
+use Rattle.std.specs.Prelude.{◌≡◌, ◌⊎◌, ◌==◌, ◌∷◌, ◌++◌, ⊤, ℕ, zero, suc, Bool, false, true, List, [], Option, None, Some}
 use Rattle.std.specs.Prelude.{if◌then◌else◌, codes, decimal}
 use Rattle.ps_grid.specs.Rectangle.{Area}
 use Rattle.ps_delta.specs.Deltas.{joined_history}
@@ -12,6 +12,7 @@ use Rattle.ps_join.specs.Joins.{IsJoined, IsStopped}
 use Rattle.ps_join.specs.Relays.{IsHalted, IsRelayed, seen}
 use Rattle.ps_join.specs.declared.fault.End.{End}
 use Rattle.ps_join.specs.declared.fault.RelayFault.{RelayFault}
+use Rattle.ps_peers.specs.Exchange as exchange
 use Rattle.ps_peers.specs.Peers.{PeerView}
 use Rattle.ps_peers.specs.declared.peer_pull.SyncFault.{SyncFault}
 use Rattle.ps_squash.specs.declared.selection.Selection.{Selection}
@@ -70,6 +71,21 @@ notice word number = word ++ decimal number ++ 10 ∷ []
 -- what `sync` writes at the end: how many lines it pushed
 abbrev pub synced_text : ℕ → List ℕ
 synced_text lines = notice (codes "synced ") lines
+
+-- all that one of two peers had was pushed to the other
+abbrev pub AreSynced : Type 0
+AreSynced = (from0 : PeerView) × (from1 : PeerView) × (to0 : PeerView) × (to1 : PeerView)
+    × exchange.IsAll ⊥ 0 from0 from1 to0.asked to1.asked
+
+-- .. was being pushed, until this fault ended it
+pub record IsSyncFault (fault : ProgramFault) : Type 0 where
+  pub cause : SyncFault
+  pub from0 : PeerView
+  pub from1 : PeerView
+  pub to0 : PeerView
+  pub to1 : PeerView
+  pub is : fault ≡ sync_fault cause
+  pub halted : exchange.IsHalted ⊥ ⊤ 0 from0 from1 to0.asked to1.asked
 
 -- all that each of two peers had was merged at the other
 abbrev pub AreJoined : Type 0

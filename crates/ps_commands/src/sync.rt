@@ -1,9 +1,10 @@
 //! The command `sync`: pushes all changes of one replica to another.
-ghost use Rattle.std.specs.Prelude.{◌≡◌, ◌≢◌, ℕ, [], IfErr, OnOk};
+ghost use Rattle.std.specs.Prelude.{◌≡◌, ◌⊎◌, ◌<◌, ℕ, [], IfErr, OnOk};
 ghost use Rattle.std.specs.Io.KnownBytes.{Appends};
 ghost use Rattle.ps_grid.specs.Blanks.{IsBlankOf};
 ghost use Rattle.ps_grid.specs.declared.refusal.Refusal.TheVariants as Refusal;
-ghost use Rattle.ps_commands.specs.Commands.{synced_text};
+ghost use Rattle.ps_commands.specs.Commands.{AreSynced, IsSyncFault, synced_text};
+ghost use Rattle.ps_commands.specs.Status.{HasNoPort};
 ghost use Rattle.ps_commands.specs.declared.fault.ProgramFault.TheVariants.{Refused};
 
 use crate::fault::ProgramFault;
@@ -28,10 +29,15 @@ fn sync_between<I: Ledger, O: Ledger, J: Ledger, P: Ledger>(
     requires first_output { IsBlankOf first.output O.name O.parts }
     requires second_input { IsBlankOf second.input J.name J.parts }
     requires second_output { IsBlankOf second.output P.name P.parts }
+    ensures synced { OnOk result AreSynced }
+    ensures stopped { IfErr result (λ f. (f ≡ Refused Refusal.Memory) ⊎ IsSyncFault f) }
 {
     let mut from = peer_of::<I, O>(alloc, first)?;
     let mut to = peer_of::<J, P>(alloc, second)?;
-    Ok(sync(alloc, &mut from, &mut to)?)
+    match sync(alloc, &mut from, &mut to) {
+        Ok(lines) => Ok(lines),
+        Err(fault) => Err(ProgramFault::from(fault)),
+    }
 }
 
 /// Pushes all changes of the replica at one port to the replica at another, and reports the number of lines pushed.
@@ -52,10 +58,14 @@ pub fn sync_on<R: Net<Stream = TcpStream>, K: Sink>(
     options: SyncOptions,
     out: &mut K,
 ) -> Result<(), ProgramFault>
+    ensures synced { OnOk result AreSynced }
     ensures told { OnOk result ((lines : ℕ) × Appends (K.contents out.old) (K.contents out.new) (synced_text lines)) }
     ensures flushed { OnOk result (K.waiting out.new ≡ []) }
     ensures calm { OnOk result (K.failures out.new ≡ K.failures out.old) }
-    ensures untold { IfErr result (λ f. f ≢ Refused Refusal.Device → out.new ≡ out.old) }
+    ensures untold { IfErr result (λ f. (out.new ≡ out.old)
+        ⊎ ((f ≡ Refused Refusal.Device) × (K.failures out.old < K.failures out.new))) }
+    ensures stopped { IfErr result (λ f. HasNoPort options.from f ⊎ HasNoPort options.to f
+        ⊎ (f ≡ Refused Refusal.Memory) ⊎ IsSyncFault f ⊎ (K.failures out.old < K.failures out.new)) }
 {
     let first = connect(ports, options.from)?;
     let second = connect(ports, options.to)?;
