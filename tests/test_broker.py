@@ -44,6 +44,10 @@ class Machine:
         head = self.client.reply()
         return [head, *(self.client.reply() for _ in range(int(head.split()[1])))]
 
+    def said(self):
+        """What was said beside its server."""
+        return (self.folder / f"log{self.number}").read_text()
+
     def run(self, commands):
         """Runs the commands of the page beside the server."""
         with open(self.folder / f"log{self.number}", "ab") as log:
@@ -59,7 +63,22 @@ class Machine:
             self.beside.wait(LIMIT)
 
 
-class BrokerTest(ProgramTest):
+class Agreement(ProgramTest):
+    """A test of machines, each with a number, the count of its edits, what it shows, and what was said there."""
+
+    def assert_agree(self, machines):
+        """All show what all typed, soon."""
+        typed = [machine.count for machine in machines]
+        rows = [f"{count or ''},{sum(typed) if row == 0 else ''}" for row, count in enumerate(typed + [0] * (4 - len(typed)))]
+        wanted = ["rows 4", *rows]
+        begun = time.monotonic()
+        for machine in machines:
+            left = max(0.1, IN_STEP - (time.monotonic() - begun))
+            if not comes_to(lambda: machine.shown() == wanted, left):
+                self.assertEqual(machine.shown(), wanted, machine.said())
+
+
+class BrokerTest(Agreement):
     """A test over a broker, with programs that ask it, and how it is started: the program's words."""
 
     programs, broker = (), ()
@@ -109,24 +128,21 @@ class BrokerTest(ProgramTest):
         made.run(commands)
 
     def assert_in_step(self):
-        """All show what all typed, soon."""
-        typed = [machine.count for machine in self.machines]
-        rows = [f"{count or ''},{sum(typed) if row == 0 else ''}" for row, count in enumerate(typed + [0] * (4 - len(typed)))]
-        wanted = ["rows 4", *rows]
-        begun = time.monotonic()
-        for machine in self.machines:
-            left = max(0.1, IN_STEP - (time.monotonic() - begun))
-            if not comes_to(lambda: machine.shown() == wanted, left):
-                self.assertEqual(machine.shown(), wanted, (self.place / f"log{machine.number}").read_text())
+        """All machines show what all typed, soon."""
+        self.assert_agree(self.machines)
 
 
-class Mqtt(BrokerTest):
+class MqttTest(BrokerTest):
+    """A test over MQTT."""
+
     programs, broker = ("mosquitto_sub", "mosquitto_pub"), ("mosquitto", "-v", "-c", "broker.conf")
 
     def start_broker(self):
         (self.place / "broker.conf").write_text(BLOCKS[0].replace("1883", str(self.port)))
         super().start_broker()
 
+
+class Mqtt(MqttTest):
     def wait_for(self, machines):
         """Waits until so many machines are at the broker, with the two that listen of each."""
         self.assertTrue(comes_to(lambda: self.log.read_text().count("Sending SUBACK") >= 2 * machines), self.log.read_text())
@@ -154,7 +170,6 @@ class Mqtt(BrokerTest):
         self.ask()
         self.assert_in_step()
 
-
     def test_what_came_in_is_not_published_again(self):
         published = self.place / "published"
         with open(published, "wb") as out:
@@ -173,10 +188,14 @@ class Mqtt(BrokerTest):
         self.assertLessEqual(len(published.read_bytes().splitlines()), 1.1 * changes)
 
 
-class Redis(BrokerTest):
+class RedisTest(BrokerTest):
+    """A test over Redis."""
+
     programs = ("redis-cli",)
     broker = ("redis-server", "--port", "PORT", "--bind", HERE, "--save", "", "--appendonly", "no")
 
+
+class Redis(RedisTest):
     def test_three_machines_a_new_one_and_a_broker_that_is_killed(self):
         for _ in range(3):
             self.machine(BLOCKS[3])

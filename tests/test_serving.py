@@ -37,7 +37,7 @@ class Pasting(ProgramTest):
 
 class Recipes(Pasting):
     def test_each_writes_the_block_after_it(self):
-        self.assertEqual(len(RECIPES), 11)
+        self.assertEqual(len(RECIPES), 10)
         for commands, shown in RECIPES:
             if "git " not in commands:
                 self.assert_writes(commands, shown)
@@ -71,7 +71,7 @@ class Recipes(Pasting):
 
     def test_one_whose_port_is_taken_ends_and_says_nothing_to_who_has_it(self):
         starting = [commands for commands, _ in RECIPES if "start " in commands]
-        self.assertEqual(len(starting), 4)
+        self.assertEqual(len(starting), 3)
         with socket.create_server((HERE, 0)) as listener:
             port = str(listener.getsockname()[1])
             for commands in starting:
