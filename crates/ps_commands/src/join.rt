@@ -124,10 +124,10 @@ fn join_anew<R: Net<Stream = TcpStream> + Clock, W: Write + Drop>(
 }
 
 /// Joins the replicas of two connections until one of them is lost, and returns that one. Fails only out of memory.
-fn join_ends<R: Clock, W: Write + Drop>(
+fn join_ends<'a, R: Clock, W: Write + Drop>(
     rt: &R,
     alloc: Global,
-    ends: &Ends<'_>,
+    ends: &'a Ends<'a>,
     progress: &mut Progress<W>,
 ) -> Result<LostEnd, ProgramFault>
     ensures lost { IfOk result (λ lost. (lost.port ≡ ends.now.from.port) ⊎ (lost.port ≡ ends.now.to.port)) }
