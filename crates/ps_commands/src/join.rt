@@ -125,15 +125,15 @@ fn join_anew<R: Net<Stream = TcpStream> + Clock, W: Write + Drop>(
 
 /// Joins the replicas of two connections until one of them is lost, and returns that one. Fails only out of memory.
 fn join_ends<'a, R: Clock, W: Write + Drop>(
-    rt: &R,
+    rt: &'a R,
     alloc: Global,
     ends: &'a Ends<'a>,
-    progress: &mut Progress<W>,
+    progress: &'a mut Progress<W>,
 ) -> Result<LostEnd, ProgramFault>
     ensures lost { IfOk result (λ lost. (lost.port ≡ ends.now.from.port) ⊎ (lost.port ≡ ends.now.to.port)) }
     ensures memory { IfErr result (λ f. f ≡ Refused Refusal.Memory) }
 {
-    let mut lookout = Lookout::new(rt, ends, progress);
+    let mut lookout = Lookout::new(&*rt, &*ends, progress);
     let fault = join_streams::<R, W, Brand, Brand, Brand, Brand>(
         alloc,
         PeerStream::new(&ends.from),
