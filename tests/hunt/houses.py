@@ -2,7 +2,7 @@
 import time
 from pathlib import Path
 
-from program import DEVICE_FAILED, lines, silent
+from program import broken, lines, silent
 from servers import comes_to
 
 from . import kept
@@ -18,7 +18,7 @@ LARGEST_GROUP = 16
 def killed(port):
     """How a follower may end whose server on this port is killed: it is closed, broken off, amid a reply, or before it
     has connected."""
-    return (0, b""), (1, DEVICE_FAILED), (3, lines("err 15 line")), (1, silent(port))
+    return (0, b""), (1, broken(port)), (3, lines("err 15 line", f"port {port}: the connection ended")), (1, silent(port))
 
 
 def followed_to(deltas, written):
