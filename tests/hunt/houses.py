@@ -2,7 +2,7 @@
 import time
 from pathlib import Path
 
-from program import broken, lines, silent
+from program import DEVICE_FAILED, broken, lines, silent
 from servers import comes_to
 
 from . import kept
@@ -16,9 +16,11 @@ LARGEST_GROUP = 16
 
 
 def killed(port):
-    """How a follower may end whose server on this port is killed: it is closed, broken off, amid a reply, or before it
-    has connected."""
-    return (0, b""), (1, broken(port)), (3, lines("err 15 line", f"port {port}: the connection ended")), (1, silent(port))
+    """How a follower may end whose server on this port is killed: it is closed, broken off, amid a reply, or before or
+    while it connects."""
+    unreached = DEVICE_FAILED + lines(f"port {port} can't be connected to")
+    closed = lines("err 15 line", f"port {port}: the connection ended")
+    return (0, b""), (1, broken(port)), (3, closed), (1, silent(port)), (1, unreached)
 
 
 def followed_to(deltas, written):
