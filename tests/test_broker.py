@@ -117,6 +117,11 @@ class BrokerTest(Agreement):
             self.running.kill()
             self.running.wait(LIMIT)
 
+    def restart_broker(self):
+        """Kills the broker, and starts it again."""
+        self.stop_broker()
+        self.start_broker()
+
     def machine(self, commands):
         """One more machine, which runs these commands."""
         number = len(self.machines) + 1

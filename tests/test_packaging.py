@@ -183,20 +183,10 @@ class OverMqtt(MqttTest, Killed):
         machines = [Machine(self, number, names, self.programs) for number in (1, 2, 3)]
         # (sooner than the timer)
         self.addCleanup(Service("sheet-mqtt-ask.service", machines[0].place, {}, 2).end)
-
-        def restart_broker():
-            self.stop_broker()
-            self.start_broker()
-
-        self.assert_agree_after(machines, [restart_broker, *(service.kill for service in machines[0].services.values())])
+        self.assert_agree_after(machines, [self.restart_broker, *(service.kill for service in machines[0].services.values())])
 
 
 class OverRedis(RedisTest, Killed):
     def test_three_machines(self):
         machines = [Machine(self, number, ["sheet-redis.service"], self.programs) for number in (1, 2, 3)]
-
-        def restart_broker():
-            self.stop_broker()
-            self.start_broker()
-
-        self.assert_agree_after(machines, [restart_broker, *(service.kill for service in machines[0].services.values())])
+        self.assert_agree_after(machines, [self.restart_broker, *(service.kill for service in machines[0].services.values())])
