@@ -340,6 +340,9 @@ class Messages(PageTest):
         heard, since = self.socket(), time.monotonic()
         self.assertEqual(heard.ask("get A1"), "val \n")
         silent = [self.socket() for _ in range(3)]
+        # (another one could overtake one that has no slot yet)
+        here = request(self.port, path="/about")
+        self.assertTrue(comes_to(lambda: answer(self.port, here)[2].startswith(b"4\n")))
         self.seated()
         self.assertGreater(time.monotonic() - since, 9)
         for opened in silent:
