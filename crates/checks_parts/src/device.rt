@@ -1,4 +1,4 @@
-//! A flush that reaches the writer below.
+//! A flush of a console also flushes the writer below it.
 ghost use Rattle.ps_grid.specs.Blanks.{IsBlankOf};
 
 use ps_device::{ConsoleOutput, hand_on, put_all};
@@ -9,7 +9,7 @@ use std::io::Write;
 use std::marker::Brand;
 use std::sync::ledger::{Blank, Ledger};
 
-/// A writer that sends its bytes on only once it is flushed. It counts them.
+/// A writer that sends its bytes only at a flush. It counts the bytes given and the bytes sent.
 #[derive(Drop)]
 struct HoldsBack {
     given: usize,
@@ -42,7 +42,7 @@ fn hands_on<L: Ledger>(
     hand_on(&mut sink).map_err(|_| Refusal::Device)
 }
 
-/// How many of the bytes the writer has sent on.
+/// Returns how many of the bytes the writer has sent.
 fn sent(alloc: Global, bytes: &[u8]) -> Result<usize, Refusal> {
     let mut writer = HoldsBack { given: 0, sent: 0 };
     hands_on::<Brand>(alloc, &mut writer, bytes, Blank::new(1))?;

@@ -26,7 +26,7 @@ is_number bytes =
     let digits = without_leading_sign bytes in
     nat_lt 0 (length digits) && all_ascii_digits digits && fits_64 (signed_digits_value 10 bytes)
 
--- the sign of a formula stands first
+-- the bytes begin with `=` or `of:=`
 unfoldable pub begins_formula : List ℕ → Bool
 begins_formula bytes = starts_with nat_eq bytes (codes "=") || starts_with nat_eq bytes (codes "of:=")
 
@@ -36,7 +36,7 @@ pub data Kind : Type 0 where
   number : ℤ → Kind
   text : List ℕ → Kind
 
--- the number that an entry writes
+-- the number that an entry spells, if it spells one
 unfoldable pub number_of : List ℕ → Option ℤ
 number_of bytes = if is_number bytes then Some (signed_digits_value 10 bytes) else None
 
@@ -57,8 +57,8 @@ kind_of bytes =
     else if begins_formula bytes then formula
     else word_of bytes
 
--- a formula entry is its formula by the grammar; it is refused where it has none, and where the canonical text is too
--- long
+-- a formula entry is read as its formula by the grammar; it is refused if it is no formula, and if its canonical text
+-- is too long
 pub record ReadsFormula (bytes : List ℕ) (result : Result Content Refusal) : Type 0 where
   pub found : IfOk result (λ c. (tree : Tree) × (c ≡ Formula tree) × HasTree bytes tree
       × (length (canon tree) ≤ LONGEST_TEXT))
@@ -69,7 +69,7 @@ pub record ReadsFormula (bytes : List ℕ) (result : Result Content Refusal) : T
       → (tree : Tree) × HasTree bytes tree × (LONGEST_TEXT < length (canon tree))
   pub refused : IfErr result (λ e. (e ≡ refusals.Formula) ⊎ ((e ≡ refusals.TooLong) ⊎ (e ≡ refusals.Memory)))
 
--- a text entry is that text where it is a label, and is refused where it is none
+-- a text entry is read as its text if that is a label, and is refused if it isn't
 abbrev pub ReadsText : Bool → List ℕ → Result Content Refusal → Type 0
 ReadsText true label result = MatchResult result (λ c. c ≡ Text label) (λ e. e ≡ refusals.Memory)
 ReadsText false label result = result ≡ Err refusals.Text

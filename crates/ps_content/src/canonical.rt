@@ -1,4 +1,4 @@
-//! Canonical texts: the form in which contents travel.
+//! Canonical texts: how replicas and files write contents, one text for each content.
 
 ghost use Rattle.std.specs.Prelude.{◌≡◌, ◌++◌, bytes_eq, codes, IfOk, IfErr, IfSome, MatchResult, Some};
 ghost use Rattle.std.specs.Fmt.{signed_decimal};
@@ -12,11 +12,11 @@ use itoa::Buffer;
 use ps_grid::Refusal;
 use std::alloc::Global;
 
-/// Returns the content whose canonical text the bytes are; `None` for any other bytes.
+/// Returns the content that has these bytes as its canonical text; `None` if no content has.
 ///
-/// Refused only when out of memory.
+/// Fails only when out of memory.
 ///
-/// Cost: linear in the bytes, with one allocation for a text; a formula allocates as `Formula::read` says.
+/// Cost: linear in the bytes. A text takes one allocation, and a formula one more than `Formula::read` says.
 pub fn read_canonical(alloc: Global, bytes: &[u8]) -> Result<Option<Content>, Refusal>
     ensures read { (c : Contents) → IsContent c → bytes.now ≡ canonical_text c
         → MatchResult result (λ found. found ≡ Some c) (λ e. e ≡ Memory) }

@@ -12,7 +12,7 @@ use ps_grid::{Refusal, Twin};
 use ps_value::{Label, SharedLabel};
 use std::alloc::Global;
 
-/// The content of a cell's register. The kinds ascend in the order of the variants.
+/// What people assign to a cell. Of contents of two kinds, the one whose variant is listed first is the lesser.
 #[derive(Drop)]
 pub enum Content {
     /// Nothing; the cell shows nothing.
@@ -23,9 +23,9 @@ pub enum Content {
     Text(SharedLabel),
     /// A formula; the cell shows its value.
     Formula(SharedFormula),
-    /// The mark that the cell shows its counter.
+    /// A mark, typed as `@tally`: the cell shows its counter.
     Tally,
-    /// The mark that the cell shows its set of options.
+    /// A mark, typed as `@choice`: the cell shows its set of options.
     Choice,
 }
 
@@ -46,7 +46,7 @@ impl Content {
     ghost use Rattle.ps_content.specs.Content.{canonical_text, IsContent};
     ghost use Rattle.ps_content.specs.Order.{formula_in};
 
-    /// Returns the formula that the content is, if it is one.
+    /// Returns the formula, if the content is one.
     pub fn formula(&self) -> Option<&Formula>
         ensures { option_copied result ≡ formula_in self.now }
     {
@@ -56,9 +56,9 @@ impl Content {
         }
     }
 
-    /// Appends the canonical text of the content. Refused only when out of memory, and then `out` is as before.
+    /// Appends the canonical text of the content to `out`. Fails only when out of memory, and then `out` is as before.
     ///
-    /// Cost: linear in the text that is appended.
+    /// Cost: linear in the canonical text.
     pub fn canonical(&self, out: &mut Vec<u8>) -> Result<(), Refusal>
         ensures appended { OnOk result (out.new.items ≡ out.old.items ++ canonical_text self.now) }
         ensures kept { OnErr result (out.new.items ≡ out.old.items) }

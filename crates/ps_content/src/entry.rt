@@ -17,18 +17,20 @@ use std::alloc::Global;
 
 /// Returns the content that an entry stands for. The first line that fits decides:
 ///
-/// - longer than 512 bytes: refused as `TooLong`;
-/// - empty: blank;
-/// - digits, perhaps after a sign, of a number of 64 bits: that number;
-/// - beginning with `=` or `of:=`: its formula by the grammar. It is refused as `Formula` where it has none, and as
-///   `TooLong` where the canonical text would pass 256 bytes;
-/// - `@tally` and `@choice`: those;
-/// - beginning with an apostrophe: the text after it, refused as `Text` where that is no label;
-/// - anything else: that text, refused as `Text` where it is no label.
+/// - longer than 512 bytes: fails with `TooLong`;
+/// - empty: `Blank`;
+/// - digits, perhaps after `+` or `-`, of a number that fits into an `i64`: that number;
+/// - beginning with `=` or `of:=`: that formula. Fails with `Formula` if it is none by the grammar, and with `TooLong`
+///   if its canonical text has more than 256 bytes;
+/// - `@tally`: `Tally`; `@choice`: `Choice`;
+/// - beginning with an apostrophe: the text after the apostrophe;
+/// - anything else: the entry as a text.
 ///
-/// Only a formula and a text take memory: nothing else is refused as out of memory.
+/// A text fails with `Text` unless it is a `Label`: 1 to 64 bytes of UTF-8 without control characters.
 ///
-/// Cost: linear in the bytes, with one allocation for a text; a formula allocates as `Formula::read` says.
+/// Only a formula or a text allocates, so only these can fail with `Memory`.
+///
+/// Cost: linear in the bytes. A text takes one allocation, and a formula one more than `Formula::read` says.
 pub fn read_entry(alloc: Global, bytes: &[u8]) -> Result<Content, Refusal>
     ensures { Reads (kind_of bytes.now) bytes.now result }
 {
@@ -47,7 +49,7 @@ pub fn read_entry(alloc: Global, bytes: &[u8]) -> Result<Content, Refusal>
     read_word(alloc, bytes)
 }
 
-/// The number that the entry writes, if it writes one.
+/// The number that the entry spells, if it spells one.
 fn read_number(bytes: &[u8]) -> Option<i64>
     ensures { result ≡ number_of bytes.now }
 {
@@ -56,7 +58,7 @@ fn read_number(bytes: &[u8]) -> Option<i64>
     signed(is_negative, magnitude)
 }
 
-/// Whether a minus stands first, and what follows the sign, if there is one.
+/// Whether the bytes begin with a minus, and the bytes without a leading sign.
 #[inline(always)]
 fn split_sign(bytes: &[u8]) -> (bool, &[u8])
     ensures sign { result.0 ≡ starts_with_minus bytes.now }
@@ -69,7 +71,7 @@ fn split_sign(bytes: &[u8]) -> (bool, &[u8])
     }
 }
 
-/// The number of a sign and a magnitude, if it has 64 bits.
+/// The number with this sign and magnitude, if it fits into an `i64`.
 #[inline(always)]
 fn signed(is_negative: bool, magnitude: u64) -> Option<i64>
     ensures { MatchBool is_negative (SomeIff result (magnitude ≤ 2 ^ 63) (neg_ℤ (pos magnitude)))
@@ -82,14 +84,14 @@ fn signed(is_negative: bool, magnitude: u64) -> Option<i64>
     }
 }
 
-/// Whether the sign of a formula stands first.
+/// Whether the bytes begin as a formula does.
 fn begins_formula(bytes: &[u8]) -> bool
     ensures { result ≡ begins_formula bytes.now }
 {
     bytes.starts_with(b"=") || bytes.starts_with(b"of:=")
 }
 
-/// The formula that the entry is, with one owner.
+/// Parses the entry as a formula.
 fn read_formula(alloc: Global, bytes: &[u8]) -> Result<Content, Refusal>
     requires { length bytes.now ≤ LONGEST_ENTRY }
     ensures { ReadsFormula bytes.now result }
@@ -99,7 +101,7 @@ fn read_formula(alloc: Global, bytes: &[u8]) -> Result<Content, Refusal>
     Ok(Content::Formula(shared))
 }
 
-/// The word or the text that an entry is, if it is no number and no formula.
+/// The content of an entry that is neither empty nor a number nor a formula: a mark or a text.
 fn read_word(alloc: Global, bytes: &[u8]) -> Result<Content, Refusal>
     ensures { Reads (word_of bytes.now) bytes.now result }
 {
@@ -115,7 +117,7 @@ fn read_word(alloc: Global, bytes: &[u8]) -> Result<Content, Refusal>
     read_text(alloc, bytes)
 }
 
-/// The text of these bytes, with one owner, where they are a label.
+/// The text of these bytes; fails with `Text` unless they are a label.
 fn read_text(alloc: Global, bytes: &[u8]) -> Result<Content, Refusal>
     ensures { ReadsText (is_label bytes.now) bytes.now result }
 {

@@ -11,7 +11,7 @@ use ps_lattice::Linear;
 use std::cmp::Ordering;
 
 impl Content {
-    /// The number that the content is, and 0 for others.
+    /// The number of a content that is one, and 0 for other contents.
     fn number(&self) -> i64
         ensures { result ≡ number_in self.now }
     {
@@ -22,7 +22,7 @@ impl Content {
         }
     }
 
-    /// The order of the numbers that the contents are.
+    /// The order of two contents by `number`.
     fn cmp_numbers(&self, other: &Content) -> Ordering
         ensures { result ≡ int_cmp (number_in self.now) (number_in other.now) }
     {
@@ -30,7 +30,7 @@ impl Content {
         number.cmp(&another)
     }
 
-    /// The bytes of the text that the content is, and none for others.
+    /// The bytes of a content that is a text, and no bytes for other contents.
     fn text(&self) -> &[u8]
         ensures { result.now ≡ text_in self.now }
     {
@@ -56,7 +56,7 @@ impl Content {
     }
 }
 
-/// Contents are equal where they are of one kind, with one number, one text or one canonical formula.
+/// Contents are equal if they are of one kind, and have the same number, text or canonical formula.
 impl PartialEq for Content {
     ghost eq = { content_eq };
 

@@ -8,7 +8,7 @@ use std::alloc::Global;
 use std::marker::Model;
 use std::sync::Arc;
 
-/// A formula with any number of owners. A contract sees it as the tree of the formula, whoever owns it.
+/// A reference-counted formula, with any number of owners. A contract sees it as the tree of the formula.
 #[derive(Drop)]
 pub struct SharedFormula {
     formula: Arc<Formula>,
@@ -28,7 +28,7 @@ impl Model for SharedFormula {
 }
 
 impl SharedFormula {
-    /// Creates a shared formula with one owner. Refused only when out of memory.
+    /// Creates a shared formula with one owner. Fails only when out of memory.
     ///
     /// Cost: one allocation.
     pub fn new(alloc: Global, formula: Formula) -> Result<SharedFormula, Refusal>

@@ -219,7 +219,7 @@ last_apart es c k b last is apart j d h e =
     apart (ap (λ (x : ℕ × CellState). x.0) (is ∙ get_or_default es k b d (omega (arith, last))
     ∙ ap (λ i. get_or es i d) (sym same)) ∙ e)
 
--- cells up to c, the last of which isn't c, are below it
+-- cells up to c are below c if the last one isn't c
 under_last : (n : ℕ) (es : Entries) (c : ℕ) → Rising n (cells_of es) → All (λ b. b.0 ≤ c) es
     → EndsApart es c → Under c (cells_of es)
 under_last n [] c r all last = tt

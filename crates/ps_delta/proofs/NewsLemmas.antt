@@ -84,7 +84,7 @@ module _ (s : State) (es cells : Entries) (e : ℕ × CellState) (u : Under e.0 
   covered_at h c (inr p) =
       subst (λ x. IsNewsOf joined_cell (s c) x (state_of cells c)) (sym (push_there es e c u p)) (f.news c)
 
-  -- one more entry of which nothing is new
+  -- one more entry that has nothing new
   pub found_same : joined_cell (s e.0) e.1 ≡ s e.0 → Found s (es ++ e ∷ []) cells
   found_same h = record {
     news = λ c. covered_at h c (cases_eq e.0 c);
@@ -104,7 +104,7 @@ module _ (s : State) (es cells : Entries) (e : ℕ × CellState) (u : Under e.0 
       (subst (λ y. IsNewsOf joined_cell (s c) (state_of es c) y)
       (sym (push_there cells (e.0, x) c (f.under e.0 u) p)) (f.news c))
 
-  -- one more entry of which something is new
+  -- one more entry that has something new
   pub found_more : (x : CellState) → IsNewsOf joined_cell (s e.0) e.1 x → joined_cell (s e.0) e.1 ≢ s e.0
       → e.0 < CELLS → Found s (es ++ e ∷ []) (cells ++ (e.0, x) ∷ [])
   found_more x w differs in_grid = record {

@@ -21,6 +21,6 @@ AreChangesBy s d cells = AreChanges s (joined_state s d) cells
 abbrev pub entries_from : State → Entries → Entries
 entries_from s entries = map (λ e. (e.0, s e.0)) entries
 
--- the grid with these blocks has a place for each cell of the entries
+-- the grid with these blocks has a state for each cell of the entries
 unfoldable pub HasRoomFor : Blocks → Entries → Type 0
 HasRoomFor blocks entries = All (λ e. HasPlace blocks e.0) entries

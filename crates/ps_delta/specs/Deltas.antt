@@ -1,4 +1,4 @@
--- A delta names cells in order, each with a state that isn't empty. It stands for a state; a list of deltas for
+-- A delta names cells in order, each with a state that isn't empty. It stands for a state. A list of deltas stands for
 -- their join.
 use Rattle.std.specs.Prelude.{◌≢◌, ◌<◌, ℕ, ◌==◌, if◌then◌else◌, List, [], ◌∷◌, length, map, fold}
 use Rattle.std.specs.List.{All}
@@ -35,7 +35,7 @@ unfoldable pub state_of : Entries → State
 state_of [] c = empty_cell
 state_of (entry ∷ rest) c = if entry.0 == c then entry.1 else state_of rest c
 
--- the state where each cell of the entries, one after another, holds what they say
+-- the state s, overwritten by the entries one after another
 abbrev pub overlaid : State → Entries → State
 overlaid s entries = fold (λ t e. with_cell t e.0 e.1) s entries
 

@@ -1,4 +1,4 @@
--- What holds of joins of states and of histories.
+-- Laws of joins of states and of histories.
 use Rattle.std.specs.Prelude.{◌≡◌, ◌↔◌, List, [], ◌∷◌, ◌++◌, Contains}
 use Rattle.std.specs.List.{AllZip}
 use Rattle.ps_lattice.specs.News.{HasNothingOf, IsNewsOf}

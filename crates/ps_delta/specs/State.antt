@@ -13,7 +13,7 @@ use Rattle.ps_delta.specs.declared.block.TheConstants.{BLOCK}
 use Rattle.ps_delta.specs.Places.{joined_places}
 use Rattle.ps_delta.specs.declared.cell_state.CellState.{CellState}
 
--- no register, no counts and no pairs
+-- nothing was assigned, counted or chosen
 unfoldable pub empty_cell : CellState
 empty_cell = record { register = None; tally = map.empty; choice = map.empty }
 
@@ -49,7 +49,7 @@ with_cell s cell x c = if cell == c then x else s c
 abbrev pub IsInGrid : State → Type 0
 IsInGrid s = (c : ℕ) → CELLS ≤ c → s c ≡ empty_cell
 
--- cell states in blocks, row by row; a block may be cut short, and what is cut off is empty
+-- cell states in blocks, row by row; a block may be short, and the cells beyond its end are empty
 abbrev pub Blocks : Type 0
 Blocks = List (List CellState)
 
@@ -57,7 +57,7 @@ Blocks = List (List CellState)
 unfoldable pub state_at : Blocks → State
 state_at blocks c = slice_index_or (slice_index_or blocks (c / BLOCK) []) (c % BLOCK) empty_cell
 
--- the cell's block reaches to its cell
+-- the cell's block has a state for the cell
 abbrev pub HasPlace : Blocks → ℕ → Type 0
 HasPlace blocks c = c % BLOCK < length (slice_index_or blocks (c / BLOCK) [])
 

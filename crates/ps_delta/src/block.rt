@@ -16,7 +16,7 @@ use std::mem;
 /// How many cells a block has.
 pub(crate) const BLOCK: usize = 64;
 
-/// The states of the cells of a block, or none of them where no cell of it was ever changed.
+/// The states of the 64 cells of a block, or no states until a change first names one of its cells.
 #[derive(Drop)]
 pub(crate) struct Block {
     cells: Vec<CellState>,
@@ -36,7 +36,7 @@ impl Model for Block {
 }
 
 impl Block {
-    /// Creates a block in which no cell was ever changed. It takes no memory.
+    /// Creates a block without states: all its cells are empty. It takes no memory.
     pub(crate) fn new(alloc: Global) -> Block
         ensures { result ≡ [] }
     {
@@ -45,14 +45,14 @@ impl Block {
         }
     }
 
-    /// Returns whether no cell of the block was ever changed.
+    /// Returns whether the block has no states, so that all its cells are empty.
     pub(crate) fn is_unmade(&self) -> bool
         ensures { IsTrue result ↔ (self.now ≡ []) }
     {
         self.cells.is_empty()
     }
 
-    /// Returns the state at a position, or `empty` where the block doesn't reach that far.
+    /// Returns the state at a position, or `empty` if the block has no state there.
     pub(crate) fn at<'a>(&'a self, place: usize, empty: &'a CellState) -> &'a CellState
         ensures { result.now ≡ slice_index_or self.now place empty.now }
     {
@@ -63,7 +63,7 @@ impl Block {
         }
     }
 
-    /// Exchanges the state at a position with another one.
+    /// Swaps the state at a position with `state`.
     pub(crate) fn swap(&mut self, place: usize, state: &mut CellState)
         requires { place < length self.old }
         ensures given { self.new ≡ slice_set self.old place state.old }
@@ -72,7 +72,7 @@ impl Block {
         mem::swap(&mut self.cells[place], state);
     }
 
-    /// Adds empty states where the block is short of cells.
+    /// Adds empty states if the block has fewer than 64.
     #[inline(always)]
     pub(crate) fn fill(&mut self, alloc: Global) -> Result<(), Refusal>
         ensures same { (p : ℕ) → slice_index_or self.new p empty_cell ≡ slice_index_or self.old p empty_cell }
@@ -86,7 +86,7 @@ impl Block {
         Ok(())
     }
 
-    /// Adds empty states until the block has all its cells.
+    /// Adds empty states until the block has 64.
     #[inline(never)]
     fn add_cells(&mut self, alloc: Global) -> Result<(), Refusal>
         ensures same { (p : ℕ) → slice_index_or self.new p empty_cell ≡ slice_index_or self.old p empty_cell }

@@ -13,7 +13,7 @@ use std::alloc::Global;
 /// The state of a cell. All three parts are stored, whichever of them is shown.
 #[derive(Drop)]
 pub struct CellState {
-    /// The content, with the stamp of its assignment.
+    /// The content, with the time and the replica of its assignment.
     pub register: Register<Content>,
     /// The counter.
     pub tally: Tally,
@@ -22,7 +22,7 @@ pub struct CellState {
 }
 
 impl CellState {
-    /// Creates the state of a cell that no edit named. It takes no memory.
+    /// Creates the state of a cell that nobody has ever changed. It takes no memory.
     #[tactic(auto, unfolding(crate::specs::State::empty_cell))]
     pub fn empty(alloc: Global) -> CellState
         ensures { result ≡ empty_cell }
@@ -56,7 +56,7 @@ impl CellState {
         (&self.register, &self.tally, &self.choice)
     }
 
-    /// Returns whether the cell has no register, no counts and no pairs.
+    /// Returns whether nobody has ever changed the cell: nothing was assigned, counted or chosen there.
     #[tactic(auto, using(crate::specs::CellLaws::empty_from_parts), unfolding(crate::specs::State::empty_cell))]
     pub fn is_empty(&self) -> bool
         ensures { IsTrue result ↔ (self.now ≡ empty_cell) }
@@ -70,7 +70,7 @@ impl CellState {
     ///
     /// Refused only when out of memory.
     ///
-    /// Cost: as for `join`.
+    /// Cost: linear in the counts and pairs of both states.
     #[tactic(auto, unfolding(crate::specs::State::joined_cell))]
     #[inline(always)]
     pub fn joined(&self, alloc: Global, other: &CellState) -> Result<CellState, Refusal>
@@ -84,11 +84,11 @@ impl CellState {
         })
     }
 
-    /// Returns what in the delta's state is new to this state: what is new to its register, its counter and its set.
+    /// Returns the part of `delta` that this state doesn't have yet, in each of register, counter and set.
     ///
     /// Refused only when out of memory.
     ///
-    /// Cost: one search in this state for each part of the delta's state.
+    /// Cost: for each count and pair of `delta`, one search among those of this state.
     pub fn news(&self, alloc: Global, delta: &CellState) -> Result<CellState, Refusal>
         ensures ok { IfOk result (λ s. IsNewsOf joined_cell self.now delta.now s) }
         ensures memory { IfErr result (λ e. e ≡ Refusal.Memory) }

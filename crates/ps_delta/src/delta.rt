@@ -1,4 +1,4 @@
-//! Deltas: what travels between replicas.
+//! Deltas: the changes that replicas exchange.
 
 ghost use Rattle.std.specs.Prelude.{◌≡◌, ◌≢◌, ◌↔◌, ◌<◌, [], ◌∷◌, IsTrue, IfOk, IfErr, OnErr, length};
 ghost use Rattle.std.specs.Bool.{OnTrue};
@@ -15,9 +15,10 @@ use ps_lattice::is_ascending;
 use std::alloc::Global;
 use std::marker::Model;
 
-/// One or more cells in order, each with a state that isn't empty. It stands for the state with these cells alone.
+/// One or more cells, ascending and distinct, each with a state that isn't empty.
 ///
-/// A contract sees it as the list of the cells with their states, whoever shares them.
+/// It stands for the state in which all other cells are empty. A contract sees it as the list of the cells with their
+/// states.
 pub struct Delta {
     cells: DeltaCells,
 }
@@ -38,12 +39,11 @@ impl Model for Delta {
 }
 
 impl Delta {
-    /// Returns the delta of the cells, without spare room.
+    /// Returns the delta of these cells, and frees the spare capacity of the list.
     ///
-    /// Returns `None` where there are no cells, where they aren't ascending and distinct, or where one has an empty
-    /// state.
+    /// Returns `None` if there are no cells, if they aren't ascending and distinct, or if one has an empty state.
     ///
-    /// Refused only when out of memory, and only where there is such a delta, of several cells.
+    /// Refused only when out of memory, and never for one cell or where it would return `None`.
     ///
     /// Cost: linear in the number of cells; one allocation, or none for one cell.
     pub fn new(alloc: Global, cells: Vec<(Cell, CellState)>) -> Result<Option<Delta>, Refusal>
@@ -59,7 +59,7 @@ impl Delta {
         }))
     }
 
-    /// Returns the delta of one cell; `None` where its state is empty. It takes no memory.
+    /// Returns the delta of one cell; `None` if the state is empty. It takes no memory.
     #[inline(always)]
     pub fn of_one(cell: Cell, state: CellState) -> Option<Delta>
         ensures { SomeIff result (IsDelta ((cell, state) ∷ [])) ((cell, state) ∷ []) }
@@ -89,8 +89,7 @@ impl Delta {
     ///
     /// Refused only when out of memory.
     ///
-    /// Cost: n log n, for n cells of all deltas together. The state of each is copied once, or joined with what its
-    /// cell has so far.
+    /// Cost: n log n for n cells in all deltas together, and for each of them one copy or one join of its state.
     pub fn joined(alloc: Global, deltas: &[Delta]) -> Result<Delta, Refusal>
         requires { 0 < length deltas.now }
         ensures joined { IfOk result (λ d. state_of d ≡ joined_history deltas.now) }
@@ -103,7 +102,7 @@ impl Delta {
         })
     }
 
-    /// Returns the delta of the cells, as `new` does; they are in order and none has an empty state.
+    /// Returns the delta of these cells; `None` if there are none. Unlike `new`, it relies on their order and states.
     pub(crate) fn of_list(
         alloc: Global,
         cells: Vec<(Cell, CellState)>,
@@ -121,7 +120,7 @@ impl Delta {
         }))
     }
 
-    /// Returns the cells with their states.
+    /// Returns the cells, ascending, with their states.
     pub fn parts(&self) -> &[(Cell, CellState)]
         ensures value { result.now ≡ self.now }
         ensures delta { IsDelta result.now }
@@ -131,7 +130,7 @@ impl Delta {
     }
 }
 
-/// A twin is one more owner of the same delta, and takes no memory.
+/// A twin shares what the delta owns, and takes no memory.
 impl Twin for Delta {
     #[inline(always)]
     fn twin(&self, alloc: Global) -> Result<Delta, Refusal> {

@@ -10,9 +10,10 @@ use std::alloc::Global;
 use std::slice;
 use std::sync::Arc;
 
-/// Cells with their states, which aren't changed any more.
+/// Cells with their states, which nobody changes any more.
 ///
-/// One alone takes no memory beside this value: most deltas are of one cell. Several have any number of owners.
+/// Most deltas have one cell. It lies in this value itself, without an allocation. Several cells lie in a list with any
+/// number of owners.
 #[derive(Drop)]
 pub(crate) enum DeltaCells {
     One((Cell, CellState)),
@@ -20,7 +21,7 @@ pub(crate) enum DeltaCells {
 }
 
 impl DeltaCells {
-    /// Stores the cells of the list without spare room. There is at least one.
+    /// Stores the cells of the list, and frees its spare capacity.
     pub(crate) fn new(
         alloc: Global,
         mut cells: Vec<(Cell, CellState)>,
@@ -47,7 +48,7 @@ impl DeltaCells {
         }
     }
 
-    /// Returns the same cells with one owner more. It takes no memory: what a state has beside it is shared.
+    /// Returns a copy that shares the list of cells or, for one cell, what its state owns. It takes no memory.
     #[inline(always)]
     pub(crate) fn share(&self, alloc: Global) -> Result<DeltaCells, Refusal>
         ensures equal { IfOk result (λ d. kept_entries d ≡ kept_entries self.now) }

@@ -1,4 +1,4 @@
-//! Edits and changes: what people ask of a sheet.
+//! Edits, which people ask a sheet for, and changes: an edit or a delta from elsewhere.
 
 ghost use Rattle.std.specs.Prelude.{◌≡◌};
 ghost use Rattle.std.specs.Option.{SomeIff};
@@ -9,35 +9,37 @@ use ps_grid::Cell;
 use ps_lattice::is_ascending;
 use std::marker::Model;
 
-/// One change of a sheet.
+/// What a person asks a sheet to do.
+///
+/// The sheet refuses an amount or option out of range, and an edit of a counter or set that the cell doesn't show.
 #[derive(Drop)]
 pub enum Edit {
-    /// Gives a cell a content.
+    /// Assigns a content to a cell.
     Set(Cell, Content),
-    /// Gives several cells their contents.
+    /// Assigns contents to several cells.
     SetAll(Batch),
-    /// Adds an amount of 1 to 1,000,000 to the counter of a cell that holds one.
+    /// Adds an amount, 1 to 1,000,000, to the counter of a cell whose content is `Tally`.
     Add(Cell, u64),
-    /// Takes such an amount from it.
+    /// Subtracts an amount, 1 to 1,000,000, from the counter of a cell whose content is `Tally`.
     Sub(Cell, u64),
-    /// Puts an option of 0 to 63 into the set of a cell that holds one.
+    /// Adds an option, 0 to 63, to the set of a cell whose content is `Choice`.
     Choose(Cell, u64),
-    /// Takes an option out of it.
+    /// Removes an option, 0 to 63, from the set of a cell whose content is `Choice`.
     Unchoose(Cell, u64),
 }
 
-/// A change of a sheet: an edit, or a delta from elsewhere.
+/// A change that a sheet can make: an edit, or a delta from elsewhere.
 #[derive(Drop)]
 pub enum Change {
-    /// An edit that people ask for.
+    /// An edit, for which the sheet makes a delta.
     Edit(Edit),
-    /// A delta made elsewhere.
+    /// A delta made elsewhere. The sheet appends all of it to its history, or nothing if it is covered.
     Delta(Delta),
-    /// A delta made elsewhere; only what is new in it is taken.
+    /// A delta made elsewhere. The sheet appends to its history only the part that it doesn't have yet.
     Merge(Delta),
 }
 
-/// Cells with contents, ascending and distinct, at least one. A contract sees it as the list of them.
+/// At least one cell, ascending and distinct, each with the content to assign. A contract sees it as that list.
 #[derive(Drop)]
 pub struct Batch {
     cells: Vec<(Cell, Content)>,
@@ -63,7 +65,7 @@ impl Model for Batch {
 impl Batch {
     ghost use Rattle.ps_delta.specs.Batches.{IsBatch};
 
-    /// Returns the batch of these cells; `None` where there is no cell, or where they aren't ascending and distinct.
+    /// Returns the batch of these cells; `None` if there is no cell, or if they aren't ascending and distinct.
     ///
     /// Cost: linear in the number of cells.
     pub fn new(cells: Vec<(Cell, Content)>) -> Option<Batch>

@@ -1,4 +1,4 @@
-//! The cells of a grid that hold something.
+//! Lists the cells of a grid that aren't empty.
 
 ghost use Rattle.std.specs.Prelude.{◌≡◌, ◌<◌, ◌+◌, ◌*◌, IfOk, IfErr, OnOk};
 ghost use Rattle.ps_grid.specs.declared.refusal.Refusal.{Refusal};
@@ -16,11 +16,11 @@ use ps_grid::{Cell, Refusal, Twin};
 use std::alloc::Global;
 
 impl Grid {
-    /// Returns the cells that hold something, in order, each with its state.
+    /// Returns the cells whose state isn't empty, ascending, each with its state.
     ///
     /// Refused only when out of memory.
     ///
-    /// Cost: the blocks of the grid, and 64 cells for each block in which a cell was ever changed.
+    /// Cost: linear in the blocks of the grid, and 64 steps for each block with states.
     pub fn entries(&self, alloc: Global) -> Result<Vec<(Cell, CellState)>, Refusal>
         ensures entries { IfOk result (λ entries. AreEntries entries.items) }
         ensures same { IfOk result (λ entries. state_of entries.items ≡ state_at self.now) }
@@ -34,7 +34,7 @@ impl Grid {
     }
 }
 
-/// Adds the cells of the block at the index to those before it, where they hold something.
+/// Appends those cells of the block at the index whose state isn't empty. `entries` has the cells before the block.
 fn add_block(
     alloc: Global,
     grid: &Grid,

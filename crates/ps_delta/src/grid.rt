@@ -1,4 +1,4 @@
-//! The state of a sheet.
+//! The state of each cell of a sheet.
 
 ghost use Rattle.std.specs.Prelude.{◌≡◌, ◌↔◌, ℕ, [], ◌∷◌, IsTrue, IfOk, IfErr, OnOk, OnErr};
 ghost use Rattle.std.specs.List.Sorted.{IsStrictlyIncreasing};
@@ -26,12 +26,12 @@ use std::marker::Model;
 /// The number of blocks of the grid.
 const BLOCKS: usize = CELLS / BLOCK;
 
-/// The state of each cell of the grid. A contract sees it as the list of its blocks, and speaks of it by `state_at`.
+/// The state of each cell of the grid. A contract sees it as a list of blocks, and names a cell's state by `state_at`.
 #[derive(Drop)]
 pub struct Grid {
-    // The cells by their index, 64 a block; a block has no state until one of its cells is written.
+    // The cells by their index, 64 a block; a block has no states until a change first names one of its cells.
     blocks: Vec<Block>,
-    // the state returned for each cell of a block without states
+    // what `at` returns for each cell of a block without states
     empty: CellState,
 }
 
@@ -52,11 +52,11 @@ impl Model for Grid {
 }
 
 impl Grid {
-    /// Creates a grid where no cell holds anything.
+    /// Creates a grid in which each cell is empty.
     ///
     /// Refused only when out of memory.
     ///
-    /// Cost: the blocks of the grid.
+    /// Cost: one allocation, for a table of the grid's blocks.
     pub fn new(alloc: Global) -> Result<Grid, Refusal>
         ensures empty { IfOk result (λ g. state_at g ≡ empty_state) }
         ensures memory { IfErr result (λ e. e ≡ Refusal.Memory) }
@@ -88,12 +88,12 @@ impl Grid {
 
     /// Joins the delta into the grid.
     ///
-    /// It is for a caller who keeps a grid alone. A sheet uses its two halves, `changes_by` and `exchange`, since it
-    /// takes a change back if it is given up.
+    /// It is for a caller that has a grid and no sheet. A sheet calls the two steps `changes_by` and `exchange` itself,
+    /// so that it can undo a change that is cancelled.
     ///
-    /// Refused only when out of memory, and then each cell holds what it held.
+    /// Refused only when out of memory, and then no cell's state is changed.
     ///
-    /// Cost: for each cell of the delta, the counts and pairs that it has here and there.
+    /// Cost: linear in the counts and pairs that the delta's cells have in the delta and in the grid.
     pub fn join(&mut self, alloc: Global, delta: &Delta) -> Result<(), Refusal>
         ensures ok { OnOk result (state_at self.new ≡ joined_state (state_at self.old) (state_of delta.now)) }
         ensures err { OnErr result (state_at self.new ≡ state_at self.old) }
@@ -107,8 +107,8 @@ impl Grid {
 
     /// Returns whether the delta is covered: joining it changes nothing.
     ///
-    /// Cost: for each cell of the delta its counts and pairs, each with a search among those that the cell has here; no
-    /// memory.
+    /// Cost: for each cell of the delta its counts and pairs, each with a search among those that the grid has for the
+    /// cell; no memory.
     pub fn covers(&self, delta: &Delta) -> bool
         ensures { IsTrue result ↔ IsBelow (state_of delta.now) (state_at self.now) }
     {
@@ -121,13 +121,11 @@ impl Grid {
         true
     }
 
-    /// Finds the cells that a join of the delta would change: their register, counter or set, shown or not.
+    /// Lists in `touched` the cells whose state a join of the delta would change, even if they would show the same.
     ///
-    /// It is part of the public interface, for a caller who asks before a join. A sheet has these cells from
-    /// `changes_by`.
+    /// It is for a caller that asks before a join. A sheet gets these cells from `changes_by`.
     ///
-    /// Cost: for each cell of the delta its counts and pairs, each with a search among those that the cell has here; no
-    /// memory.
+    /// Cost: as for `covers`.
     pub fn touched(&self, delta: &Delta, touched: &mut Touched)
         ensures { AreTouched (state_at self.now) (joined_state (state_at self.now) (state_of delta.now)) touched.new }
     {
@@ -140,14 +138,14 @@ impl Grid {
         }
     }
 
-    /// Returns what in the delta is new to the grid: the least delta whose join with the grid is that of `delta`.
+    /// Returns the part of the delta that the grid doesn't have yet: the least delta that changes the grid as `delta`
+    /// does.
     ///
-    /// Returns `None` where the grid covers the delta.
+    /// Returns `None` if the delta is covered.
     ///
-    /// Refused only when out of memory, and only where something is new.
+    /// Refused only when out of memory, and never if the delta is covered.
     ///
-    /// Cost: for each cell of the delta its counts and pairs, each with a search among those that the cell has here. It
-    /// takes no memory where the grid covers the delta.
+    /// Cost: as for `covers`, and memory for the part that is returned.
     pub fn news(&self, alloc: Global, delta: &Delta) -> Result<Option<Delta>, Refusal>
         ensures news { IfOk result (λ o. IfSome o (λ d.
             IsNewsOf joined_state (state_at self.now) (state_of delta.now) (state_of d))) }
@@ -164,7 +162,7 @@ impl Grid {
         Delta::of_list(alloc, cells)
     }
 
-    /// What in one entry is new to its cell.
+    /// As `news`, for a delta with one entry: a cell and its state.
     #[inline(always)]
     fn news_of_one(&self, alloc: Global, part: &(Cell, CellState)) -> Result<Option<Delta>, Refusal>
         ensures news { IfOk result (λ o. IfSome o (λ d.
@@ -182,7 +180,7 @@ impl Grid {
         Ok(Some(Delta::of_filled(part.0, new)))
     }
 
-    /// The entries with what in them is new to their cells; those without news are left out.
+    /// For each entry, the part that the grid doesn't have yet. Covered entries are left out.
     fn news_of(
         &self,
         alloc: Global,
@@ -208,13 +206,13 @@ impl Grid {
 
     /// Lists the cells that a join of the delta would change, ascending, each with the state that it would have.
     ///
-    /// They replace what the list has. Afterwards the grid has room for them, so `exchange` takes no memory. A list
-    /// that is used again and again allocates only where a delta has more cells than all before.
+    /// It clears `list` first. Afterwards the grid has room for these cells, so `exchange` takes no memory. A list that
+    /// is reused grows only if a delta has more cells than all deltas before.
     ///
     /// Refused only when out of memory, and then the list may have some of the cells.
     ///
-    /// Cost: for each cell of the delta, the counts and pairs that it has here and there; and 64 states for each new
-    /// block.
+    /// Cost: linear in the counts and pairs that the delta's cells have in the delta and in the grid, and 64 states for
+    /// each block that had none.
     #[inline(always)]
     pub fn changes_by(
         &mut self,
@@ -241,7 +239,8 @@ impl Grid {
         Ok(())
     }
 
-    /// Exchanges the state of each cell of the list with that of the list.
+    /// Swaps, for each cell of the list, the state in the grid with the state in the list. A second call undoes the
+    /// first.
     ///
     /// Cost: linear in the number of cells; no memory.
     pub fn exchange(&mut self, cells: &mut [(Cell, CellState)])
@@ -257,7 +256,7 @@ impl Grid {
         }
     }
 
-    /// Exchanges the state of the cell with the given one.
+    /// Swaps the state of the cell with `state`.
     fn swap(&mut self, cell: Cell, state: &mut CellState)
         requires { HasPlace self.old cell }
         ensures given { state_at self.new ≡ with_cell (state_at self.old) cell state.old }
@@ -268,7 +267,7 @@ impl Grid {
         self.blocks[index / BLOCK].swap(index % BLOCK, state);
     }
 
-    /// Makes the block of the cell, if it isn't there.
+    /// Gives the cell's block its states, if it has none.
     fn make_place(&mut self, alloc: Global, cell: Cell) -> Result<(), Refusal>
         ensures same { state_at self.new ≡ state_at self.old }
         ensures places { (c : ℕ) → HasPlace self.old c → HasPlace self.new c }
@@ -281,10 +280,10 @@ impl Grid {
 
 /// Grids are joined cell by cell.
 ///
-/// A block that was made counts as different from one that wasn't, whatever the cells hold. All new blocks are made
-/// before any of them replaces an old one, so a refused join changes nothing.
+/// Contracts distinguish a block with 64 empty states from one without states. All new blocks are made before any of
+/// them replaces an old one, so a refused join changes nothing.
 ///
-/// It is part of the public interface: a sheet joins only deltas.
+/// A sheet doesn't call it: it joins only deltas.
 impl Join for Grid {
     ghost use Rattle.ps_delta.specs.State.{joined_blocks};
     ghost use Rattle.ps_delta.specs.CellLaws.{joined_blocks-comm, joined_blocks-assoc, joined_blocks-idem};

@@ -15,7 +15,7 @@ use ps_grid::{Cell, Refusal, Twin};
 use ps_lattice::Join;
 use std::alloc::Global;
 
-/// Returns the entries of the deltas in the order of their cells.
+/// Returns the entries (cells with states) of all deltas, in the order of their cells.
 pub(crate) fn in_order<'a>(
     alloc: Global,
     deltas: &'a [Delta],
@@ -93,7 +93,7 @@ pub(crate) fn joined_in_order(
     Ok(cells)
 }
 
-/// Joins an entry into the list; its cell is the last one there, or comes after it.
+/// Joins an entry into the list. The entry's cell is the last cell of the list, or comes after all of them.
 fn add(
     alloc: Global,
     cells: &mut Vec<(Cell, CellState)>,

@@ -1,4 +1,4 @@
-//! Laws of joins, of states and of histories, whatever the deltas are. Each function does nothing: its contract is the
+//! Laws of joins of states and of histories, which are lists of deltas. Each function does nothing: its contract is the
 //! law.
 //!
 //! They are part of the public interface. The program calls only `grids_are_shared`.
@@ -11,29 +11,27 @@ use crate::block::Block;
 use crate::cell_state::CellState;
 use crate::grid::Grid;
 
-/// States that states join in any order, in any groups and again with the same result.
-///
-/// The empty state adds nothing.
+/// States that the join of states is commutative, associative and idempotent, and that the empty state adds nothing.
 pub fn states_join()
     ensures { StatesJoin }
 {}
 
-/// States that two lists with the same deltas have the same joined history, in any order and with any repeats.
+/// States that two histories with the same deltas join to the same state, whatever their order and repeats.
 pub fn history_is_a_set()
     ensures { HistoryIsASet }
 {}
 
-/// States that deltas in groups have the same joined history as the joins of the groups.
+/// States that replacing groups of deltas by one delta each, their join, leaves the joined state the same.
 pub fn groups_join()
     ensures { GroupsJoin }
 {}
 
-/// States that a delta below the joined history changes nothing.
+/// States that appending a covered delta, which adds nothing new, leaves the joined state of a history the same.
 pub fn covered_changes_nothing()
     ensures { CoveredChangesNothing }
 {}
 
-/// States what is new in a delta: it is below the delta, needs nothing that the state has, and is unique.
+/// States that the new part of a delta is part of the delta, repeats nothing that the state has, and is unique.
 pub fn news_is_least()
     ensures { NewsIsLeast }
 {}

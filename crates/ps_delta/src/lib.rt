@@ -1,25 +1,28 @@
-//! The replicated state: what a cell holds, what travels, and what a join of the travelled deltas means.
+//! The replicated state: what a cell holds, the deltas that replicas exchange, and how deltas join into the state.
 //!
-//! A cell holds a register, a counter and a set; all three are stored, whichever of them is shown. A delta names cells
-//! in order, each with a state that isn't empty. The grid has a state for each cell. Deltas may be joined in any order,
-//! in any groups and again: the state is the join of the set of them.
+//! A cell holds a register, a counter and a set; all three are stored, whichever of them is shown. A counter has
+//! *counts*: for each replica, what it added and subtracted. A set has *pairs*, one for each time that somebody chose
+//! an option.
 //!
-//! It is not the sheet: it evaluates nothing, makes no edits and stores no history.
+//! A delta names cells in order, each with a state that isn't empty. The grid has a state for each cell. Deltas may be
+//! joined in any order, in any groups and repeatedly: only the set of joined deltas matters. A delta is *covered* if
+//! joining it changes nothing.
+//!
+//! This crate evaluates nothing, makes no edits and stores no history.
 //!
 //! The contract to use: after `Grid::join` the grid's state is `joined_state` of its old state and the delta's. After a
 //! refusal it is exactly the old state. `Grid::covers` says whether that join would change nothing, and `Grid::touched`
 //! which cells it would change. Two grids join by the laws of `Join`. The functions of `laws.rt` say that the joined
 //! history depends only on the set of deltas.
 //!
-//! Say `A1` holds 3 with the stamp (time 1, replica 1). A delta comes that gives `A1` the content 4 with the same
-//! stamp, and counts 5 of replica 2 for its counter. `Grid::touched` names `A1`. After `Grid::join` it holds 4, the
-//! greater content, and the counter beside it. The same delta again is covered, and touches nothing.
+//! Say `A1` holds 3 with the stamp (time 1, replica 1). A delta arrives that gives `A1` the content 4 with the same
+//! stamp, and adds 5 by replica 2 to its counter. `Grid::touched` lists `A1`. After `Grid::join`, `A1` holds 4, the
+//! greater content, and the counter beside it. The same delta again is covered, and changes nothing.
 //!
-//! Cost: a delta is joined, tested and touched in the number of its cells and the size of their states. The number of
-//! the grid's cells plays no part. A fresh grid has only a table of blocks; the 64 states of a block are made when the
-//! first of them is written. Counts and pairs lie beside the cell, except small counts of one replica alone. Copies of
-//! a cell's state share them, as they share formulas. A delta has the state of one cell in itself, and shares those of
-//! several.
+//! Cost: joining or testing a delta depends on its cells and the size of their states, but not on the size of the grid.
+//! A fresh grid has only a table of blocks; a block gets its 64 states when a change first names one of its cells.
+//! Counts and pairs lie in lists outside the cell's state, except small counts of one replica alone. Copies of a state
+//! share these lists, as they share formulas. Copies of a delta of several cells share its list of cells.
 #![tactic(auto)]
 
 mod block;

@@ -8,7 +8,7 @@ use ps_grid::Refusal;
 use ps_lattice::{Join, Merge};
 use std::alloc::Global;
 
-/// Returns both lists joined position by position; the items past the end of the shorter one stay.
+/// Returns both lists joined position by position. The items past the end of the shorter list are copied.
 pub(crate) fn joined<X: Merge>(alloc: Global, mine: &[X], theirs: &[X]) -> Result<Vec<X>, Refusal>
     ensures ok { IfOk result (λ v. v.items ≡ joined_places X.joined mine.now theirs.now) }
     ensures memory { IfErr result (λ e. e ≡ Refusal.Memory) }
@@ -28,7 +28,7 @@ pub(crate) fn joined<X: Merge>(alloc: Global, mine: &[X], theirs: &[X]) -> Resul
     Ok(all)
 }
 
-/// Returns whether joining the first list into the second one changes nothing.
+/// Returns whether joining `mine` into `theirs`, position by position, changes nothing.
 pub(crate) fn are_below<X: Join>(mine: &[X], theirs: &[X]) -> bool
     ensures { IsTrue result ↔ (joined_places X.joined theirs.now mine.now ≡ theirs.now) }
 {

@@ -1,4 +1,4 @@
-//! A list of cells with room for all of them.
+//! A list of cells with room for every cell of the grid.
 
 ghost use Rattle.std.specs.Prelude.{◌≡◌, ◌<◌, ◌++◌, [], ◌∷◌, IfOk, IfErr};
 ghost use Rattle.std.specs.List.{All};
@@ -11,8 +11,8 @@ use std::marker::Model;
 
 /// The cells that a join would change, ascending. A contract sees it as the list of the cells.
 ///
-/// It has room for each cell of the grid, so `Grid::touched` takes no memory. It is part of the public interface, with
-/// `Grid::touched`: the sheet itself learns these cells as it joins.
+/// `Grid::touched` fills it. It has room for each cell of the grid, so that this takes no memory. A sheet uses
+/// `Grid::changes_by` instead, which lists the same cells.
 #[derive(Drop)]
 pub struct Touched {
     cells: Vec<Cell>,

@@ -69,7 +69,7 @@ pub Sends-after : (E : Type 0) (old mid new : Option (List ℕ)) (result : Resul
 Sends-after E old mid new (Ok done) first second p q = Appends-append old mid new first second p q
 Sends-after E old mid new (Err error) first second p q = cut_after old mid new first second p q
 
--- what a write that failed says of a longer text
+-- a write of a front that failed is also a failed write of a longer text
 pub Sends-cut : (E : Type 0) (old new : Option (List ℕ)) (result : Result (Unit {0}) E) (whole bytes rest : List ℕ)
     → whole ≡ bytes ++ rest → IsErr result
     → (count : ℕ) × (count < length bytes) × Appends old new (take count bytes) → Sends old new result whole

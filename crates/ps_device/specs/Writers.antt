@@ -1,4 +1,4 @@
--- What a clause reads of a sink over a writer, and of a console over one.
+-- What clauses read of a sink over a writer, and of a console over a writer.
 use Rattle.std.specs.Prelude.{ℕ, Bool, List, Option, drop}
 use Rattle.std.specs.Io.KnownBytes.{append_known}
 use Rattle.std.specs.declared.io.traits.Write.{Ghosts}
@@ -13,7 +13,7 @@ writer_of sink = sink.writer
 abbrev pub console_writer : {W L : Type 0} {G : Ghosts W} → ConsoleOutput W L G → W
 console_writer output = output.sink.writer
 
--- the bytes that were put and that the writer was not given
+-- the bytes that were put and that the writer hasn't been given yet
 abbrev pub console_waiting : {W L : Type 0} {G : Ghosts W} → ConsoleOutput W L G → List ℕ
 console_waiting output = drop output.sent output.bytes.items
 

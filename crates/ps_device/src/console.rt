@@ -1,7 +1,7 @@
-//! A console's output: bytes that wait in memory until they are flushed.
+//! A buffered sink over a writer: bytes wait in memory until a flush, or until the buffer is full.
 //!
-//! A batch of lines costs one write for each piece of input. A peer that waits for a reply gets it, since a session
-//! flushes its sink before each read.
+//! A session flushes its sink before each read. So a batch of lines costs one write for each piece of input that is
+//! read, and a peer that waits for a reply gets it.
 ghost use Rattle.std.specs.Prelude.{◌≡◌, ◌<◌, ◌≤◌, ◌+◌, [], IfErr, IfOk, IsErr, IsOk, IsTrue, OnOk, drop, false};
 ghost use Rattle.std.specs.Prelude.{is_err, length, vec_capacity, vec_len};
 ghost use Rattle.std.specs.Io.KnownBytes.{Keeps, WriteAppends, append_known};
@@ -17,7 +17,7 @@ use std::alloc::Global;
 use std::io::Write;
 use std::sync::ledger::{Blank, Ledger};
 
-/// A sink over a writer that holds back what is put until it is flushed, or until its room is full.
+/// A buffered sink over a writer: bytes wait in it until a flush, or until the buffer is full.
 ///
 /// The bytes put are those that the writer was given, in order and whole, and then those that wait. After a failure
 /// nothing more is written, and every further call fails. A flush flushes the writer too, which no clause shows.
@@ -28,7 +28,7 @@ pub struct ConsoleOutput<W: Write + Drop, L: Ledger> {
     /// the bytes put last; the writer has the first `sent` of them already
     bytes: Vec<u8>,
     sent: usize,
-    /// a call failed
+    /// whether a call failed
     is_stopped: bool,
     ghost within: { vec_len bytes ≤ PIECE_BYTES },
     ghost reserved: { PIECE_BYTES ≤ vec_capacity bytes },
@@ -39,7 +39,9 @@ pub struct ConsoleOutput<W: Write + Drop, L: Ledger> {
 impl<W: Write + Drop, L: Ledger> ConsoleOutput<W, L> {
     ghost use Rattle.ps_device.specs.Writers.{console_contents, console_waiting, console_writer, has_failed};
 
-    /// Creates an output over this writer, with room for `PIECE_BYTES` waiting bytes. Refused only when out of memory.
+    /// Creates an output over this writer, with a buffer of `PIECE_BYTES` bytes. Refused only when out of memory.
+    ///
+    /// `blank` opens the ledger in which contracts count the failures.
     ///
     /// Cost: one allocation.
     pub fn new(alloc: Global, writer: W, blank: Blank) -> Result<ConsoleOutput<W, L>, Refusal>
@@ -61,14 +63,14 @@ impl<W: Write + Drop, L: Ledger> ConsoleOutput<W, L> {
         })
     }
 
-    /// Gives the writer the bytes that wait.
+    /// Writes the bytes that wait to the writer, and doesn't flush the writer.
     fn send(&mut self) -> Result<(), Failed>
         ensures same { Keeps (console_contents W.contents self.old) (console_contents W.contents self.new) }
         ensures sent { OnOk result (self.new.bytes.items ≡ []) }
         ensures counted { self.new.sink.failed ≡ self.old.sink.failed + failed_flush result }
         ensures stops { has_failed self.new ≡ is_err result }
     {
-        // a failure on the way out leaves it stopped
+        // stays so if a write fails
         self.is_stopped = true;
         while self.sent < self.bytes.len() {
             let count = self.sink.put(&self.bytes[self.sent..])?;
@@ -83,7 +85,7 @@ impl<W: Write + Drop, L: Ledger> ConsoleOutput<W, L> {
         Ok(())
     }
 
-    /// Takes bytes from the front of a piece that may not fit; a full room is sent first.
+    /// Takes bytes from the front of a piece that may not fit. Writes the buffer out first if it is full.
     #[cold]
     #[inline(never)]
     fn put_front(&mut self, piece: &[u8]) -> Result<usize, Failed>
@@ -122,11 +124,11 @@ impl<W: Write + Drop, L: Ledger> Sink for ConsoleOutput<W, L> {
 
     ghost holds_back = { ⊥ };
 
-    /// Takes bytes from the front of the piece, and sends the room first where it is full.
+    /// Takes bytes from the front of the piece, and returns how many: at least one, unless the piece is empty.
     ///
-    /// At least one byte is taken at `Ok`, unless the piece is empty.
+    /// Writes the buffer out first if it is full.
     ///
-    /// Cost: linear in the bytes taken, with no call of the writer while there is room.
+    /// Cost: linear in the bytes taken. Only a full buffer costs calls of the writer.
     #[inline]
     fn put(&mut self, piece: &[u8]) -> Result<usize, Failed>
         ensures within { IfOk result (λ count. count ≤ length piece.now) }
@@ -147,9 +149,9 @@ impl<W: Write + Drop, L: Ledger> Sink for ConsoleOutput<W, L> {
         Ok(piece.len())
     }
 
-    /// Gives the writer the bytes that wait, and flushes it.
+    /// Writes the bytes that wait to the writer, and flushes the writer.
     ///
-    /// Cost: as many calls of the writer as it needs for the bytes, and one more.
+    /// Cost: as many writes as the writer needs for the bytes, and one flush.
     fn flush(&mut self) -> Result<(), Failed>
         ensures same { Keeps (console_contents W.contents self.old) (console_contents W.contents self.new) }
         ensures flushed { OnOk result (console_waiting self.new ≡ []) }

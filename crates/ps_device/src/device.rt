@@ -1,30 +1,29 @@
-//! Where bytes come from and where they go.
+//! The traits of devices: a `Source` gives bytes, and a `Sink` takes them.
 ghost use Rattle.std.specs.Prelude.{◌≡◌, ℕ, ◌+◌, ◌<◌, ◌≤◌, List, [], Option, length, IfOk, OnOk, OnErr};
 ghost use Rattle.std.specs.Io.KnownBytes.{Keeps, ReadConsumes, WriteAppends};
 ghost use Rattle.ps_device.specs.Device.{failed_take, failed_put, failed_flush, HoldsBack, Sends};
 
-/// A device failed.
+/// The error of every call of a [`Source`] or a [`Sink`]. It doesn't say why the call failed.
 #[derive(Clone, Copy, Debug, PartialEq, Eq)]
 pub struct Failed;
 
-/// Where bytes come from.
+/// Where bytes come from: standard input, a file, a connection.
 ///
-/// Contracts see the bytes that remain, where the source shows them, and how many calls failed so far. They also see a
-/// bound on how many more calls give bytes. A call fails where it returns an error. A count of 0 for a piece that isn't
-/// empty is the end of the input.
+/// A call fails if it returns an error. If it returns 0 for a piece that isn't empty, the input has ended. Contracts
+/// see the bytes still to come, how many calls have failed, and a bound on how many more calls return bytes.
 pub trait Source {
-    /// The bytes that are still to come, where the source shows them.
+    /// The bytes still to come; `None` if the source doesn't show them to contracts.
     ghost remaining: { Self → Option (List ℕ) };
 
     /// How many calls failed so far.
     ghost failures: { Self → ℕ };
 
-    /// At most how many more calls give bytes. It never rises.
+    /// A bound on how many more calls return bytes. It never rises, so a loop of reads ends.
     ghost left: { Self → ℕ };
 
-    /// Puts the next bytes at the front of the piece, and returns how many.
+    /// Reads the next bytes into the front of the piece, and returns how many.
     ///
-    /// Cost: linear in the bytes that it returns, besides the time of the device.
+    /// Cost: linear in the bytes read, besides the time of the device.
     fn take(&mut self, piece: &mut [u8]) -> Result<usize, Failed>
         ensures within { IfOk result (λ count. count ≤ length piece.new) }
         ensures bytes { ReadConsumes (remaining self.old) (remaining self.new) result piece.new }
@@ -33,26 +32,26 @@ pub trait Source {
         ensures falls { IfOk result (λ count. 0 < count → left self.new < left self.old) };
 }
 
-/// Where bytes go.
+/// Where bytes go: memory, standard output, a file, a connection.
 ///
-/// Contracts see the bytes put so far, where the sink shows them, which of them still wait, and how many calls failed
-/// so far. A call fails where it returns an error, or takes none of a piece that isn't empty.
+/// A call fails if it returns an error, or if it takes no byte of a piece that isn't empty. Contracts see the bytes put
+/// so far, which of them still wait for a flush, and how many calls have failed.
 pub trait Sink {
-    /// The bytes put so far, where the sink shows them; those that wait are the last of them.
+    /// The bytes put so far, the waiting ones last; `None` if the sink doesn't show them to contracts.
     ghost contents: { Self → Option (List ℕ) };
 
-    /// The bytes that wait until they are flushed.
+    /// The bytes that were put and wait for a flush.
     ghost waiting: { Self → List ℕ };
 
     /// How many calls failed so far.
     ghost failures: { Self → ℕ };
 
-    /// It holds back all that is put, until it is flushed.
+    /// That the sink never sends a byte before a flush: every byte put waits for one.
     ghost holds_back: { Type 0 };
 
     /// Takes bytes from the front of the piece, and returns how many.
     ///
-    /// Cost: linear in the bytes that it takes, besides the time of the device.
+    /// Cost: linear in the bytes taken, besides the time of the device.
     fn put(&mut self, piece: &[u8]) -> Result<usize, Failed>
         ensures within { IfOk result (λ count. count ≤ length piece.now) }
         ensures bytes { WriteAppends (contents self.old) (contents self.new) result piece.now }
@@ -60,7 +59,7 @@ pub trait Sink {
         ensures held { holds_back
             → HoldsBack (contents self.old) (contents self.new) (waiting self.old) (waiting self.new) };
 
-    /// Sends all bytes that wait. No byte that was put is lost, even where it fails.
+    /// Sends all bytes that wait. Even if that fails, the bytes put so far (`contents`) stay the same.
     ///
     /// Cost: linear in the bytes that wait, besides the time of the device.
     fn flush(&mut self) -> Result<(), Failed>
@@ -69,7 +68,7 @@ pub trait Sink {
         ensures counted { failures self.new ≡ failures self.old + failed_flush result };
 }
 
-/// Puts all of these bytes, or those before a failure of the sink.
+/// Puts all of these bytes on the sink. If the sink fails, only the bytes before its failure have been put.
 ///
 /// Cost: linear in the bytes, in as many calls as the sink needs.
 #[inline]
@@ -86,7 +85,7 @@ pub fn put_all<K: Sink>(sink: &mut K, bytes: &[u8]) -> Result<(), Failed>
         if count == 0 {
             return Err(Failed);
         }
-        // most sinks take all bytes at once, and then the loop need not go on
+        // most sinks take all bytes at once: this ends the loop without another test
         if count == bytes.len() - start {
             return Ok(());
         }
@@ -95,9 +94,9 @@ pub fn put_all<K: Sink>(sink: &mut K, bytes: &[u8]) -> Result<(), Failed>
     Ok(())
 }
 
-/// Sends all bytes that wait.
+/// Sends all bytes that wait, by one call of [`Sink::flush`].
 ///
-/// Cost: one call of [`Sink::flush`].
+/// Its clauses state the count of failures as those of [`put_all`] do: apart for Ok and for an error.
 pub fn hand_on<K: Sink>(sink: &mut K) -> Result<(), Failed>
     ensures same { Keeps (K.contents sink.old) (K.contents sink.new) }
     ensures flushed { OnOk result (K.waiting sink.new ≡ []) }

@@ -1,4 +1,4 @@
-//! A device over memory, whose bytes contracts know exactly.
+//! A sink over memory. Contracts know its bytes exactly.
 ghost use Rattle.std.specs.Prelude.{◌≡◌, Some, []};
 ghost use Rattle.ps_grid.specs.Blanks.{IsBlankOf};
 
@@ -7,17 +7,17 @@ use ps_grid::GhostCount;
 use std::alloc::Global;
 use std::sync::ledger::{Blank, Ledger};
 
-/// A sink that stores what is put. Out of memory it fails, and then holds what it had.
+/// A sink that stores the bytes put on it. A `put` that runs out of memory fails, and leaves the bytes as they were.
 #[derive(Drop)]
 pub struct MemorySink<L: Ledger> {
     /// The bytes put so far.
     pub bytes: Vec<u8>,
-    /// How many calls failed.
+    /// How many calls failed, for contracts only.
     pub failed: GhostCount<L>,
 }
 
 impl<L: Ledger> MemorySink<L> {
-    /// Creates an empty sink. It takes no memory.
+    /// Creates an empty sink, which takes no memory. `blank` opens the ledger in which contracts count the failures.
     pub fn new(alloc: Global, blank: Blank) -> MemorySink<L>
         requires { IsBlankOf blank L.name L.parts }
         ensures empty { result.bytes.items ≡ [] }

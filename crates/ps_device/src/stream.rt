@@ -8,7 +8,7 @@ use ps_grid::GhostCount;
 use std::io::{ErrorKind, Read, Write};
 use std::sync::ledger::{Blank, Ledger};
 
-/// A source over a reader. A read that a signal interrupted is tried again and is no failure.
+/// A source over a reader. A read that a signal interrupts is tried again, and is no failure.
 #[derive(Drop)]
 pub struct Reading<R: Read + Drop, L: Ledger> {
     reader: R,
@@ -19,6 +19,8 @@ pub struct Reading<R: Read + Drop, L: Ledger> {
 
 impl<R: Read + Drop, L: Ledger> Reading<R, L> {
     /// Creates a source over this reader. It takes no memory, and fails for good after 2^64 - 1 reads.
+    ///
+    /// `blank` opens the ledger in which contracts count the failures.
     pub fn new(reader: R, blank: Blank) -> Reading<R, L>
         requires { IsBlankOf blank L.name L.parts }
         ensures calm { ⟦<Reading<R, L> as Source>⟧.failures result ≡ 0 }
@@ -53,9 +55,9 @@ impl<R: Read + Drop, L: Ledger> Source for Reading<R, L> {
     }
 }
 
-/// A sink over a writer, in which nothing waits.
+/// A sink over a writer, without a buffer: no bytes wait in it.
 ///
-/// A write or a flush that a signal interrupted is tried again and is no failure. A write that takes none of a piece
+/// A write or a flush that a signal interrupts is tried again, and is no failure. A write that takes no byte of a piece
 /// that isn't empty is a failure.
 #[derive(Drop)]
 pub struct Writing<W: Write + Drop, L: Ledger> {
@@ -67,6 +69,8 @@ pub struct Writing<W: Write + Drop, L: Ledger> {
 
 impl<W: Write + Drop, L: Ledger> Writing<W, L> {
     /// Creates a sink over this writer. It takes no memory, and fails for good after 2^64 - 1 writes and flushes.
+    ///
+    /// `blank` opens the ledger in which contracts count the failures.
     pub fn new(writer: W, blank: Blank) -> Writing<W, L>
         requires { IsBlankOf blank L.name L.parts }
         ensures calm { ⟦<Writing<W, L> as Sink>⟧.failures result ≡ 0 }
@@ -80,7 +84,7 @@ impl<W: Write + Drop, L: Ledger> Writing<W, L> {
         }
     }
 
-    /// Counts a failed call without a call of the writer.
+    /// Counts a failed call, without calling the writer.
     pub(crate) fn fail(&mut self)
         ensures writer { self.new.writer ≡ self.old.writer }
         ensures counted { self.new.failed ≡ self.old.failed + 1 }

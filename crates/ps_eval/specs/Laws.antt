@@ -1,4 +1,4 @@
--- What the recalculation rests on.
+-- Facts about evaluation that the proof of the recalculation uses.
 use Rattle.std.specs.Prelude.{◌≡◌, ℕ, IsTrue}
 use Rattle.ps_value.specs.declared.value.Value.TheVariants.{Err}
 use Rattle.ps_value.specs.declared.value.Fault.TheVariants.{Cycle}

@@ -19,7 +19,7 @@ abbrev pub in_range : ℤ → Bool
 in_range (pos n) = nat_lt n (2 ^ 63)
 in_range (negsuc n) = nat_lt n (2 ^ 63)
 
--- an exact result
+-- an exact result, or the fault of a number out of range
 abbrev pub exact : ℤ → Number
 exact z = if in_range z then Ok z else Err OutOfRange
 
@@ -31,12 +31,12 @@ abbrev pub truth : Bool → ℤ
 truth true = pos 1
 truth false = pos 0
 
--- a number by a positive one, cut down to the whole number below
+-- a number divided by a positive one, rounded down
 abbrev pub floored_by : ℤ → ℕ → ℤ
 floored_by (pos a) b = pos (a / b)
 floored_by (negsuc a) b = negsuc (a / b)
 
--- a / b, cut down to the whole number below
+-- a / b, rounded down
 abbrev pub floored : ℤ → ℤ → ℤ
 floored a (pos b) = floored_by a b
 floored a (negsuc b) = floored_by (neg_ℤ a) (suc b)
@@ -45,7 +45,7 @@ floored a (negsuc b) = floored_by (neg_ℤ a) (suc b)
 abbrev pub modulo : ℤ → ℤ → Number
 modulo a b = if is_zero b then Err DivZero else Ok (a -ℤ b *ℤ floored a b)
 
--- a / b, cut towards zero
+-- a / b, rounded towards zero
 abbrev pub quotient : ℤ → ℤ → Number
 quotient a b = if is_zero b then Err DivZero else exact (int_div a b)
 

@@ -11,7 +11,7 @@ use Rattle.ps_eval.specs.declared.truths.Truths.{Truths}
 use Rattle.ps_eval.specs.Number.{Number, is_zero, in_range}
 use Rattle.ps_eval.specs.Items.{numbers_in, first_fault, total}
 
--- the least of the numbers, or the greatest number of 64 bits where there is none, and the other way round
+-- the least of the numbers, or 2^63 - 1 if there is none; below, the greatest, or -2^63
 abbrev pub lowest_of : List ℤ → ℤ
 lowest_of ns = fold int_min (pos (2 ^ 63 - 1)) ns
 
@@ -37,8 +37,7 @@ SummarizesArguments items s = AreKnown items s.count s.sum s.least s.greatest s.
 abbrev pub numbers_taken : Summary → ℕ
 numbers_taken s = s.count
 
--- the operand may be taken from among the items, and the rest of the summary stays known: it is no item, or a number
--- that is neither the least nor the greatest
+-- a summary of the items can drop this operand: it is no item, or a number that is neither the least nor the greatest
 abbrev pub MayLeave : Operand → List Number → Type 0
 MayLeave operands.Empty items = ⊤
 MayLeave operands.Text items = ⊤

@@ -1,4 +1,4 @@
-//! A summary of the items of all arguments of SUM, MIN, MAX or COUNT.
+//! The items (numbers and faults) of all arguments of SUM, MIN, MAX or COUNT, summarized.
 
 ghost use Rattle.std.specs.Prelude.{◌≡◌, ◌+◌, ◌*◌, ◌^◌, ◌<◌, ◌≤◌, List, [], ◌++◌, unsigned_abs};
 ghost use Rattle.ps_eval.specs.Number.{Number};
@@ -9,10 +9,10 @@ use ps_value::Fault;
 
 /// A summary of the items of the arguments so far.
 ///
-/// The arguments may have so many ranges that their numbers would be too many for a `Summary`.
+/// Its count and its sum are wider than those of a `Summary`, which many ranges could overflow.
 #[derive(Drop)]
 pub(crate) struct ArgumentsSummary {
-    /// as in a `Summary`
+    /// this field and those below: as in a `Summary`
     count: u128,
     sum: Total,
     least: i64,
@@ -56,7 +56,7 @@ impl ArgumentsSummary {
         self.fault = self.fault.or(argument.fault);
     }
 
-    /// Returns SUM of the items.
+    /// Returns SUM of the items: the first fault, or the exact sum, or `Fault::Num` if that is no `i64`.
     pub(crate) fn sum(&self) -> Result<i64, Fault>
         ensures { (items : List Number) → SummarizesArguments items self.now → result ≡ sum_of items }
     {
@@ -66,7 +66,7 @@ impl ArgumentsSummary {
         }
     }
 
-    /// Returns MIN of the items.
+    /// Returns MIN of the items: the first fault, or the least number, or 0 without numbers.
     pub(crate) fn min(&self) -> Result<i64, Fault>
         ensures { (items : List Number) → SummarizesArguments items self.now → result ≡ min_of items }
     {
@@ -77,7 +77,7 @@ impl ArgumentsSummary {
         }
     }
 
-    /// Returns MAX of the items.
+    /// Returns MAX of the items: the first fault, or the greatest number, or 0 without numbers.
     pub(crate) fn max(&self) -> Result<i64, Fault>
         ensures { (items : List Number) → SummarizesArguments items self.now → result ≡ max_of items }
     {
@@ -88,7 +88,7 @@ impl ArgumentsSummary {
         }
     }
 
-    /// Returns COUNT of the items.
+    /// Returns COUNT of the items: how many are numbers. Faults are passed over.
     pub(crate) fn count(&self) -> Result<i64, Fault>
         ensures { (items : List Number) → SummarizesArguments items self.now → result ≡ count_of items }
     {
@@ -100,5 +100,5 @@ impl ArgumentsSummary {
     }
 }
 
-/// The greatest number of 64 bits.
+/// The greatest `i64`.
 const GREATEST: u128 = 0x7fff_ffff_ffff_ffff;

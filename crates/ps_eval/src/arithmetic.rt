@@ -9,14 +9,14 @@ use ps_formula::Sign;
 use ps_tokens::Operator;
 use ps_value::Fault;
 
-/// The result, or the fault of a number out of range.
+/// The exact result, or `Fault::Num` where there is none since it is out of range.
 fn ranged(exact_result: Option<i64>) -> Result<i64, Fault>
     ensures { MatchOption exact_result (result ≡ Err OutOfRange) (λ n. result ≡ Ok n) }
 {
     exact_result.ok_or(Fault::Num)
 }
 
-/// Returns the value of a sign in front of a number.
+/// Returns the number with the sign applied; `Fault::Num` for `-` in front of the least `i64`.
 pub(crate) fn prefixed(sign: Sign, a: i64) -> Result<i64, Fault>
     ensures { result ≡ prefixed sign a }
 {
@@ -26,7 +26,7 @@ pub(crate) fn prefixed(sign: Sign, a: i64) -> Result<i64, Fault>
     }
 }
 
-/// Returns the value of an operator between two numbers.
+/// Returns `a operator b`; `Fault::Num` if it is out of range. A comparison gives 1 where it holds, else 0.
 pub(crate) fn operation(operator: Operator, a: i64, b: i64) -> Result<i64, Fault>
     ensures { result ≡ operation operator a b }
 {
@@ -50,7 +50,7 @@ pub(crate) fn truth(holds: bool) -> i64
     if holds { 1 } else { 0 }
 }
 
-/// Returns MOD: the remainder of `a` by `b`, with the sign of `b`.
+/// Returns MOD: the remainder of `a` by `b`, with the sign of `b`; `Fault::DivZero` if `b` is 0.
 pub(crate) fn modulo(a: i64, b: i64) -> Result<i64, Fault>
     ensures { result ≡ modulo a b }
 {
@@ -73,7 +73,7 @@ fn rest_of(a: i64, b: i64) -> i64
     }
 }
 
-/// The remainder of a division that is cut towards zero, with the sign of `a`.
+/// The remainder of a division that rounds towards zero, with the sign of `a`.
 fn cut_rest_of(a: i64, b: i64) -> i64
     requires { b ≢ pos 0 }
     ensures { result ≡ int_rem a b }
@@ -81,7 +81,7 @@ fn cut_rest_of(a: i64, b: i64) -> i64
     a.wrapping_rem(b)
 }
 
-/// Returns QUOTIENT: `a` divided by `b`, cut towards zero.
+/// Returns QUOTIENT: `a` divided by `b`, rounded towards zero; `Fault::DivZero` if `b` is 0.
 pub(crate) fn quotient(a: i64, b: i64) -> Result<i64, Fault>
     ensures { result ≡ quotient a b }
 {
@@ -92,7 +92,7 @@ pub(crate) fn quotient(a: i64, b: i64) -> Result<i64, Fault>
     }
 }
 
-/// Returns ABS: the magnitude.
+/// Returns ABS: the magnitude; `Fault::Num` for the least `i64`.
 pub(crate) fn absolute(a: i64) -> Result<i64, Fault>
     ensures { result ≡ absolute a }
 {

@@ -1,4 +1,4 @@
-//! Where the values of cells come from.
+//! Where evaluation gets the values of cells from.
 
 ghost use Rattle.std.specs.Prelude.{◌≡◌, ℕ};
 ghost use Rattle.ps_value.specs.Operand.{operand_of};
@@ -20,13 +20,17 @@ pub trait Look {
     fn at(&self, cell: Cell) -> Value
         ensures { result ≡ value_at self.now cell };
 
-    /// Returns what evaluation reads of the value that a cell shows.
+    /// Returns the part of the cell's value that evaluation needs: a number, a fault, or only that the value is a text
+    /// or nothing.
+    ///
+    /// A set of options counts as the number of chosen options.
     fn operand(&self, cell: Cell) -> Operand
         ensures { result ≡ operand_of (value_at self.now cell) };
 
-    /// Returns the summary of the items of a range, cell by cell and row by row.
+    /// Returns the summary of the numbers and faults that the cells of a range show. It calls `operand` for each cell,
+    /// row by row.
     ///
-    /// Cost: the cells of the range.
+    /// Cost: one call for each cell of the range.
     fn summary_by_cells(&self, rect: Rect) -> Summary
         ensures { Summarizes (range_items (value_at self.now) rect) result }
     {
@@ -37,9 +41,9 @@ pub trait Look {
         summary
     }
 
-    /// Returns the summary of the items of a range. A table of values may be walked in an order of its own.
+    /// Returns the same as `summary_by_cells`, which it calls by default. An implementation may have a faster way.
     ///
-    /// Cost: the cells of the range.
+    /// Cost: linear in the cells of the range, by default.
     fn summary(&self, rect: Rect) -> Summary
         ensures { Summarizes (range_items (value_at self.now) rect) result }
     {

@@ -1,4 +1,4 @@
-//! A summary of some items, as SUM, MIN, MAX and COUNT need it.
+//! What SUM, MIN, MAX and COUNT need to know of some items, which are numbers and faults.
 
 ghost use Rattle.std.specs.Prelude.{◌≡◌, ◌↔◌, ◌+◌, ◌*◌, ◌^◌, ◌<◌, ◌≤◌, ◌<ℤ◌, List, [], ◌∷◌, ◌++◌, unsigned_abs};
 ghost use Rattle.std.specs.Prelude.{is_some, IsTrue, IsFalse};
@@ -6,17 +6,19 @@ ghost use Rattle.ps_eval.specs.Number.{Number};
 
 use ps_value::{Fault, Operand};
 
-/// A summary of some items: how many numbers there are, their exact sum, the least and the greatest, and the first
-/// fault.
+/// A summary of a list of items, which are numbers and faults. It has the count of the numbers, their exact sum, the
+/// least and the greatest, and the first fault.
 ///
-/// A contract names the items by `Summarizes`.
+/// In contracts, `Summarizes items summary` says which items a summary has taken.
 #[derive(Drop)]
 pub struct Summary {
-    /// the sum of the numbers, first since it is aligned to sixteen bytes, and how many there are
+    /// the sum of the numbers, first since it is aligned to sixteen bytes
     pub(crate) sum: i128,
+    /// how many numbers there are
     pub(crate) count: u64,
-    /// the least and the greatest number; without numbers the greatest and the least of all 64-bit numbers
+    /// the least number; `i64::MAX` without numbers
     pub(crate) least: i64,
+    /// the greatest number; `i64::MIN` without numbers
     pub(crate) greatest: i64,
     /// the first fault
     pub(crate) fault: Option<Fault>,
@@ -66,7 +68,7 @@ impl Summary {
         self.fault = self.fault.or(Some(fault));
     }
 
-    /// Adds the operand of one cell, which may be no item.
+    /// Adds the item of one cell: its number or its fault. An empty cell and a text add nothing.
     #[inline(always)]
     pub fn take_cell(&mut self, operand: Operand)
         requires { numbers_taken self.old < 2 ^ 60 }
@@ -82,7 +84,7 @@ impl Summary {
         }
     }
 
-    /// Adds all items of another summary after those of this one.
+    /// Appends the items of `other` to those of this summary. If both have a fault, this one's counts as the first.
     #[inline]
     pub fn join(&mut self, other: &Summary)
         requires room { numbers_taken self.old < 2 ^ 60 }
@@ -108,7 +110,7 @@ impl Summary {
         self.least < number && number < self.greatest
     }
 
-    /// Leaves out one of the numbers that is neither the least nor the greatest.
+    /// Removes one of the numbers that is neither the least nor the greatest.
     #[inline(always)]
     fn leave_out(&mut self, number: i64)
         requires among { (front : List Number) × (back : List Number)
@@ -124,9 +126,9 @@ impl Summary {
         self.sum -= i128::from(number);
     }
 
-    /// Replaces the operand `old` of a cell among the items by `new`, and returns whether it could.
+    /// Updates the summary for one cell of it that showed `old` and now shows `new`. Returns whether it could.
     ///
-    /// It can't where there is a fault, nor where `old` is the least or the greatest number. Then nothing is changed.
+    /// It returns false, and changes nothing, if an item is a fault, or if `old` is the least or the greatest number.
     #[inline]
     pub fn exchange(&mut self, old: Operand, new: Operand) -> bool
         requires among { (front : List Number) × (back : List Number)
@@ -154,7 +156,7 @@ impl Summary {
         true
     }
 
-    /// Returns whether there is a fault among the items.
+    /// Returns whether some item is a fault.
     #[inline]
     pub fn has_fault(&self) -> bool
         ensures { (items : List Number) → Summarizes items self.now → result ≡ is_some (first_fault items) }
@@ -175,7 +177,7 @@ impl Summary {
         summary
     }
 
-    /// Creates a summary of the operand of one cell, which may be no item.
+    /// Creates a summary of one cell, with one item, or none if the cell is empty or shows a text.
     pub(crate) fn of_cell(operand: Operand) -> Summary
         ensures items { Summarizes (items_from operand) result }
         ensures count { numbers_taken result ≤ 1 }

@@ -1,4 +1,4 @@
-//! An exact sum.
+//! An exact sum, which may grow past 128 bits.
 
 ghost use Rattle.std.specs.Prelude.{◌≡◌, ◌+◌, ◌^◌, ◌<◌, ◌≤◌, pos, ◌+ℤ◌, unsigned_abs};
 ghost use Rattle.ps_eval.specs.Number.{exact};
@@ -6,22 +6,22 @@ ghost use Rattle.ps_eval.specs.Number.{exact};
 use ps_value::Fault;
 use std::marker::Model;
 
-/// One turn and half of one: numbers with the same rest differ by whole turns.
+/// One turn, 2^126: a total is stored as a rest plus a count of turns.
 const TURN: i128 = 0x4000_0000_0000_0000_0000_0000_0000_0000;
 
 const HALF: i128 = 0x2000_0000_0000_0000_0000_0000_0000_0000;
 
-/// The greatest and the least number of 64 bits.
+/// The greatest `i64`, and below it the least one.
 const GREATEST: i128 = 0x7fff_ffff_ffff_ffff;
 
 const LEAST: i128 = -0x8000_0000_0000_0000;
 
-/// A whole number, as a rest and a count of turns. It may grow up to the bound in `requires`.
+/// A whole number, stored as `rest + turns * TURN`. The first `requires` of `add` bounds it.
 #[derive(Drop)]
 pub(crate) struct Total {
     /// from minus half a turn up to, and without, half a turn
     rest: i128,
-    /// how many whole turns come on top
+    /// how many turns to add to the rest
     turns: i128,
 }
 
@@ -43,7 +43,7 @@ impl Total {
         Total { rest: 0, turns: 0 }
     }
 
-    /// Adds a number. Hardly any addition passes half a turn.
+    /// Adds a number. The rest seldom leaves its range, so the last branch is the common one.
     #[inline]
     pub(crate) fn add(&mut self, number: i128)
         requires room { unsigned_abs self.old < 2 ^ 180 }
@@ -62,7 +62,7 @@ impl Total {
         }
     }
 
-    /// Returns the number, or the fault of a number out of range.
+    /// Returns the number; `Fault::Num` if it doesn't fit into an `i64`.
     pub(crate) fn value(&self) -> Result<i64, Fault>
         ensures { result ≡ exact self.now }
     {

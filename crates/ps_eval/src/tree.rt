@@ -1,4 +1,4 @@
-//! The value of a formula, by its tree.
+//! Evaluates the tree of a formula.
 
 ghost use Rattle.std.specs.Prelude.{◌≡◌, ◌+◌, ◌*◌, ◌^◌, ◌<◌, ◌≤◌, List, ◌∷◌, [], ◌++◌, map, MatchOption};
 ghost use Rattle.ps_grid.specs.declared.size.TheConstants.{CELLS};
@@ -22,12 +22,11 @@ use ps_tokens::Function;
 use ps_value::{Fault, Operand, Value};
 use std::sync::ledger::Ledger;
 
-/// Returns the value of a formula where each cell shows what `look` says, and ticks the meter once. It takes no memory.
+/// Returns the value of a formula where each cell shows what `look` says. The meter counts one evaluation.
 ///
-/// It is part of the public interface. The workers of a level call `eval_number`, which says that the value is a number
-/// or a fault.
+/// It takes no memory. The sheet calls `eval_number` instead, whose type excludes a text, options and nothing.
 ///
-/// Cost: the nodes of the tree, and the cells of its ranges.
+/// Cost: linear in the nodes of the tree and the cells of its ranges.
 pub fn eval<K: Look, L: Ledger>(formula: &Formula, look: &K, meter: &mut Meter<L>) -> Value
     ensures value { result ≡ ev formula.now (K.value_at look.now) }
     ensures tick { meter.new ≡ meter.old + 1 }
@@ -38,11 +37,11 @@ pub fn eval<K: Look, L: Ledger>(formula: &Formula, look: &K, meter: &mut Meter<L
     }
 }
 
-/// Returns the number of a formula where each cell shows what `look` says, or the fault in its place.
+/// Returns the number of a formula where each cell shows what `look` says, or the fault that the formula shows.
 ///
-/// It ticks the meter once, and takes no memory.
+/// The meter counts one evaluation. It takes no memory.
 ///
-/// Cost: the nodes of the tree, and the cells of its ranges.
+/// Cost: linear in the nodes of the tree and the cells of its ranges.
 pub fn eval_number<K: Look, L: Ledger>(
     formula: &Formula,
     look: &K,
@@ -55,7 +54,7 @@ pub fn eval_number<K: Look, L: Ledger>(
     number(formula.tree(), look)
 }
 
-/// The number of a tree.
+/// The number or fault of a tree.
 #[cycle(numbers)]
 fn number<K: Look>(tree: &Expr, look: &K) -> Result<i64, Fault>
     ensures { result ≡ number_of (tree_of tree.now) (K.value_at look.now) }
@@ -74,7 +73,7 @@ fn number<K: Look>(tree: &Expr, look: &K) -> Result<i64, Fault>
     }
 }
 
-/// The number of a side of an operator. A numeral and a reference need no further call.
+/// As `number`, for one side of an operator. A numeral and a reference are inlined, without a call of `number`.
 #[cycle(numbers)]
 #[inline(always)]
 fn side<K: Look>(tree: &Expr, look: &K) -> Result<i64, Fault>
@@ -87,7 +86,7 @@ fn side<K: Look>(tree: &Expr, look: &K) -> Result<i64, Fault>
     }
 }
 
-/// A cell's operand where one number is wanted.
+/// The number of a cell where one number is wanted. An empty cell counts as 0; a text gives `Fault::Value`.
 #[inline(always)]
 fn single(operand: Operand) -> Result<i64, Fault>
     ensures { result ≡ single_of operand }
@@ -100,7 +99,8 @@ fn single(operand: Operand) -> Result<i64, Fault>
     }
 }
 
-/// The number of a call. A call that the grammar doesn't have, with too few or too many arguments, is no number.
+/// The number or fault of a call. A count of arguments that the grammar forbids gives `Fault::Value`, except that SUM,
+/// MIN, MAX, COUNT, AND and OR take any count.
 #[cycle(numbers)]
 fn value_of_call<K: Look>(
     function: Function,
@@ -211,7 +211,7 @@ fn negation_of<K: Look>(arguments: &[Argument], look: &K) -> Result<i64, Fault>
     }
 }
 
-/// The value of an argument: a range is no number.
+/// The number of an argument. A range is no single number and gives `Fault::Value`.
 #[cycle(numbers)]
 fn operand<K: Look>(argument: &Argument, look: &K) -> Result<i64, Fault>
     ensures { result ≡ value_in (item_of argument.now) (K.value_at look.now) }
@@ -222,7 +222,7 @@ fn operand<K: Look>(argument: &Argument, look: &K) -> Result<i64, Fault>
     }
 }
 
-/// The summary of the values of the arguments.
+/// The values of the arguments, summarized for AND and OR.
 #[cycle(numbers)]
 fn operands<K: Look>(arguments: &[Argument], look: &K) -> Truths
     ensures { Judges (values_of (in_row (map item_of arguments.now)) (K.value_at look.now)) result }
@@ -234,7 +234,7 @@ fn operands<K: Look>(arguments: &[Argument], look: &K) -> Truths
     truths
 }
 
-/// The summary of the items of the arguments.
+/// The items of all arguments, summarized for SUM, MIN, MAX and COUNT.
 #[cycle(numbers)]
 fn items<K: Look>(arguments: &[Argument], look: &K) -> ArgumentsSummary
     ensures { SummarizesArguments (items_of (in_row (map item_of arguments.now)) (K.value_at look.now)) result }
@@ -261,7 +261,7 @@ fn items_of_one<K: Look>(argument: &Argument, look: &K) -> Summary
     }
 }
 
-/// The cell of a reference that stands alone.
+/// The cell, if the tree is a single reference.
 fn cell_alone(tree: &Expr) -> Option<Cell>
     ensures { MatchOption result
         ((v : Assignment) (x : Number) → items_alone (tree_of tree.now) v x ≡ x ∷ [])
@@ -282,7 +282,7 @@ fn items_of_range<K: Look>(rect: Rect, look: &K) -> Summary
     ensures items { Summarizes (range_items (K.value_at look.now) rect) result }
     ensures count { numbers_taken result ≤ CELLS }
 {
-    // for the fact that the range lies in the grid
+    // tells the prover that the range lies in the grid
     let _ = rect.area();
     look.summary(rect)
 }

@@ -1,4 +1,4 @@
-//! A summary of the arguments of AND and OR.
+//! What AND and OR need to know of the values of their arguments.
 
 ghost use Rattle.std.specs.Prelude.{◌≡◌, ◌&&◌, ◌||◌, not, List, [], ◌∷◌, ◌++◌};
 ghost use Rattle.ps_eval.specs.Number.{is_zero, Number};
@@ -56,7 +56,7 @@ impl Truths {
         self.fault = self.fault.or(Some(fault));
     }
 
-    /// Returns AND of the values.
+    /// Returns AND of the values: the first fault, or 1 if no number is 0, else 0.
     pub(crate) fn all(&self) -> Result<i64, Fault>
         ensures { (values : List Number) → Judges values self.now → result ≡ all_of values }
     {
@@ -66,7 +66,7 @@ impl Truths {
         }
     }
 
-    /// Returns OR of the values.
+    /// Returns OR of the values: the first fault, or 1 if some number isn't 0, else 0.
     pub(crate) fn any(&self) -> Result<i64, Fault>
         ensures { (values : List Number) → Judges values self.now → result ≡ any_of values }
     {
@@ -77,14 +77,14 @@ impl Truths {
     }
 }
 
-/// Whether no number is 0, with one more number.
+/// Whether no number is 0 (`all`, for the numbers so far), with one more number.
 fn every(all: bool, number: i64) -> bool
     ensures { result ≡ (all && not (is_zero number)) }
 {
     all && number != 0
 }
 
-/// Whether some number isn't 0, with one more number.
+/// Whether some number isn't 0 (`any`, for the numbers so far), with one more number.
 fn some(any: bool, number: i64) -> bool
     ensures { result ≡ (any || not (is_zero number)) }
 {

@@ -1,5 +1,5 @@
--- The reader finds what the grammar says: tokens that have a tree are read as that tree, whatever stands after them,
--- as long as it is no operator that would go on.
+-- The reader is complete: tokens that have a tree by the grammar are read as that tree, whatever stands after them,
+-- unless it is an operator that would continue the expression.
 use Rattle.std.proofs.Common.{◌≡◌, ℕ, zero, suc, ◌+◌, ◌*◌, ◌<◌, ◌≤◌, true, cond, refl, sym, ap, ◌∙◌}
 use Rattle.std.proofs.Common.{subst, List, [], ◌∷◌, ◌++◌, length, length-append, append_assoc, arith}
 use Rattle.std.specs.Prelude.{Option, Some, None, option_and_then, nat_lt}

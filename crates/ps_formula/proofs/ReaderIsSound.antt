@@ -1,4 +1,4 @@
--- What the reader takes is what the grammar says: where it reads a tree, some first tokens have that tree.
+-- The reader is sound: where it reads a tree, some first tokens have that tree by the grammar.
 use Rattle.std.proofs.Common.{◌≡◌, ℕ, zero, suc, ◌+◌, ◌-◌, ◌≤◌, cond, refl, sym, ap, ◌∙◌, subst, List, [], ◌∷◌, ◌++◌}
 use Rattle.std.proofs.Common.{length, append-nil, arith}
 use Rattle.std.specs.Prelude.{Some, None, option_and_then}

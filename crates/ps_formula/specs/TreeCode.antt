@@ -1,5 +1,5 @@
--- A code of trees, by which a proof tells two formulas apart: a tree is written as a list of marks, operands before
--- what joins them, and read back from it with a stack. Nothing but the view of `Formula` uses it.
+-- A code of trees, by which a proof distinguishes two formulas. A tree is written as a list of marks in postfix order,
+-- operands first, and a stack reads it back. Only the view of `Formula` uses it.
 use Rattle.std.specs.Prelude.{ℕ, ℤ, List, [], ◌∷◌, Bool, true, false, ◌⊎◌, ◌≡◌, refl}
 use Rattle.std.specs.Coded.{Coded, code_by, coded×, coded_ℕ, coded_ℤ, coded_bool, coded⊎, coded_list}
 use Rattle.std.proofs.Common.{◌∙◌, inl, inr, ap}
@@ -13,7 +13,7 @@ use Rattle.ps_formula.specs.contracts.expr.Sign as of_sign
 use Rattle.ps_formula.specs.Tree.{Tree, Item, Items, number, reference, signed, joined, group, call, expression}
 use Rattle.ps_formula.specs.Tree.{range, no_items, item_and}
 
--- what stands at one place of the list
+-- one mark of the list
 pub data Mark : Type 0 where
   a_number : ℤ → Mark
   a_cell : ℕ → Mark

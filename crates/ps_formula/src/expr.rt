@@ -12,11 +12,11 @@ pub enum Sign {
     Minus,
 }
 
-/// An expression. Contracts see it by `tree_of` as a `Tree`, which has the same cases and no pointers.
+/// An expression. In contracts, `tree_of` gives its `Tree`, which has the same cases without the boxes.
 #[cycle(tree)]
 #[derive(Drop)]
 pub enum Expr {
-    /// A whole number; in a formula that was read, from 0 to 9223372036854775807.
+    /// A whole number, from 0 to 9223372036854775807 in a formula that `Formula::read` returned.
     Numeral(i64),
     /// The value of a cell.
     Reference(Cell),
@@ -36,7 +36,7 @@ pub enum Expr {
 pub struct Operands {
     /// The operand before the operator.
     pub left: Expr,
-    /// The operand after it.
+    /// The operand after the operator.
     pub right: Expr,
 }
 
@@ -44,7 +44,7 @@ pub struct Operands {
 #[cycle(tree)]
 #[derive(Drop)]
 pub enum Argument {
-    /// A single value; a reference alone stands for a range of one cell in some functions.
+    /// A single value. In SUM, MIN, MAX and COUNT, a lone reference counts as a range of one cell.
     Expression(Expr),
     /// The cells of a rectangle.
     Range(Rect),

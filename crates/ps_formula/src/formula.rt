@@ -14,13 +14,13 @@ use ps_tokens::{Token, tokens};
 use std::alloc::Global;
 use std::marker::Model;
 
-/// The most bytes of an entry.
+/// The most bytes of an entry, which is what a person types into a cell.
 pub const LONGEST_ENTRY: usize = 512;
 
-/// The most bytes of a canonical text.
+/// The most bytes of a formula's canonical text.
 pub const LONGEST_TEXT: usize = 256;
 
-/// A formula. A contract sees it as its tree, so two formulas are equal where their trees are, whatever their spelling.
+/// A formula. A contract sees it as its tree, so formulas with one tree are equal, however they were spelled.
 #[derive(Drop)]
 pub struct Formula {
     tree: Expr,
@@ -53,12 +53,12 @@ impl Formula {
     ghost use Rattle.ps_formula.specs.Formula.{HasTree};
     ghost use Rattle.ps_formula.specs.References.{rects_of, mentions};
 
-    /// Returns the formula that the bytes are by the grammar.
+    /// Parses the bytes as a formula.
     ///
     /// # Errors
     ///
     /// - `TooLong`: more than `LONGEST_ENTRY` bytes, or a canonical text of more than `LONGEST_TEXT` bytes.
-    /// - `Formula`: the bytes have no tree.
+    /// - `Formula`: the bytes are no formula by the grammar.
     /// - `Memory`: out of memory.
     ///
     /// Cost: linear in the bytes. Allocations: one for each operator, sign and group, the growing list of each call's
@@ -105,7 +105,7 @@ impl Formula {
         &self.tree
     }
 
-    /// Returns the canonical text of the formula, which has the formula's tree.
+    /// Returns the canonical text: the one spelling that all formulas with this tree share. It has this tree too.
     pub fn text(&self) -> &[u8]
         ensures canonical { result.now ≡ canon self.now }
         ensures has_tree { HasTree result.now self.now }
@@ -114,7 +114,7 @@ impl Formula {
         &self.text
     }
 
-    /// Returns each reference and range as a rectangle, from left to right. Those in branches not taken count too.
+    /// Returns each reference and range as a rectangle, from left to right. Both branches of an IF count.
     pub fn rects(&self) -> &[Rect]
         ensures each { result.now ≡ rects_of self.now }
         ensures covered { (c : ℕ) → list_any (λ r. is_inside r c) result.now ≡ mentions self.now c }
@@ -135,16 +135,16 @@ fn after_opening(bytes: &[u8]) -> Option<&[u8]>
     }
 }
 
-/// A holder of formulas: it knows which cells hold one.
+/// A source of the formulas that cells hold.
 pub trait Formulas {
     ghost use Rattle.std.specs.Prelude.{Option, ℕ};
     ghost use Rattle.std.specs.Option.{option_copied};
     ghost use Rattle.ps_formula.specs.Tree.{Tree};
 
-    /// The tree of a cell's formula, where the cell holds one.
+    /// The tree of the cell's formula; `None` if the cell holds no formula.
     ghost formula_at: { Self → ℕ → Option Tree };
 
-    /// Returns the formula of the cell, if it holds one.
+    /// Returns the cell's formula; `None` if the cell holds no formula.
     fn formula(&self, cell: Cell) -> Option<&Formula>
         ensures { option_copied result ≡ formula_at self.now cell };
 }

@@ -12,8 +12,8 @@ use ps_grid::{Rect, Refusal};
 use ps_tokens::{Token, put_token};
 use std::alloc::Global;
 
-/// Returns the canonical text of the tokens after its `=`. At first `room` bytes are reserved; the spare ones are freed
-/// at the end.
+/// Returns `=` and the canonical text of the tokens. It reserves `room` bytes first, and frees the spare ones at the
+/// end.
 pub(crate) fn text(alloc: Global, room: usize, tokens: &[Token]) -> Result<Vec<u8>, Refusal>
     ensures text { IfOk result (λ text. text.items ≡ 61 ∷ tokens_text tokens.now) }
     ensures memory { IfErr result (λ e. e ≡ Memory) }
@@ -70,7 +70,7 @@ fn first_rect(tokens: &[Token]) -> Option<(Rect, &[Token])>
     None
 }
 
-/// Returns each reference and range among the tokens as a rectangle. Up to three are found in one walk.
+/// Returns each reference and range among the tokens as a rectangle, from left to right. Only more than three allocate.
 pub(crate) fn rects(alloc: Global, tokens: &[Token]) -> Result<Rects, Refusal>
     ensures rects { IfOk result (λ rects. in_line rects ≡ flat_map rects_at tokens.now) }
     ensures memory { IfErr result (λ e. e ≡ Memory) }

@@ -8,12 +8,12 @@ pub fn one_tree()
     ensures { OneTree }
 {}
 
-/// States that a tree's canonical text has that tree, if any text has it.
+/// States that the canonical text of a formula has the formula's tree.
 pub fn canonical_text_has_tree()
     ensures { CanonicalTextHasTree }
 {}
 
-/// States that trees of formulas are ordered by the bytes of their canonical texts.
+/// States that the order of formulas is the order of the bytes of their canonical texts.
 pub fn ordered_by_text()
     ensures { OrderedByText }
 {}

@@ -1,14 +1,15 @@
 //! The formulas of the sheet: their grammar, their trees, their canonical texts, and the cells that they refer to.
 //!
-//! It is not the evaluator: it knows no values. A formula is read from bytes once. It stores its tree, its canonical
-//! text and its references.
+//! This crate evaluates nothing and knows no values. `Formula::read` parses bytes once. A `Formula` stores its tree,
+//! its canonical text and its references. The canonical text is the one spelling that all formulas with that tree
+//! share.
 //!
 //! The bytes `= sum( [.$B$2:.A1] ; -007)` are a formula. Its tree is a call of `SUM` with a range and a signed
 //! number, its canonical text `=SUM([.A1:.B2];-7)`, and its one rectangle that of A1 to B2.
 //!
-//! The contract to use is that of `Formula::read`. The bytes have the tree that it finds, by the grammar of
-//! `specs/Grammar.antt`. It refuses bytes as `Formula` only where they have none. A contract sees a formula as that
-//! tree.
+//! The contract to use is that of `Formula::read`. The bytes have the tree that it returns, by the grammar of
+//! `specs/Grammar.antt`. It fails with `Refusal::Formula` only if the bytes have no tree. A contract sees a formula as
+//! its tree.
 //!
 //! Cost: reading is linear in the bytes, at most 512. A comparison is linear in the shorter text. Everything else is
 //! constant.

@@ -9,7 +9,7 @@ ghost use Rattle.ps_formula.specs.OrderLaws.{tree_cmp-total, tree_eq-equivalence
 use crate::formula::Formula;
 use std::cmp::Ordering;
 
-/// Formulas are equal where their trees are, and so where their canonical texts are.
+/// Formulas are equal if their trees are equal, which is if their canonical texts are.
 ///
 /// Cost: linear in the shorter text.
 impl PartialEq for Formula {

@@ -1,7 +1,10 @@
-//! The reader of trees: from tokens to an expression, each rule of the grammar a function.
+//! A recursive-descent parser: from tokens to an expression, with a function for each rule of the grammar.
 //!
-//! Every function takes a depth that falls by one in each call, so all of them end. `whole` passes a depth that no
+//! Every function takes a `depth` that falls by one in each call, so all of them end. `whole` passes a depth that no
 //! formula uses up.
+//!
+//! A *level* of the grammar is 0 for prefixed operands, 1 for products, 2 for sums and 3 for comparisons. A lower level
+//! binds tighter.
 
 ghost use Rattle.std.specs.Prelude.{◌≡◌, ◌⊎◌, map, IfOk, IfErr};
 ghost use Rattle.std.specs.Option.{option_copied, option_map};
@@ -18,7 +21,7 @@ use ps_grid::{Rect, Refusal};
 use ps_tokens::{Function, Operator, Token};
 use std::alloc::Global;
 
-/// The loosest level, that of comparisons: below it are sums, products and prefixed operands.
+/// The loosest level, comparisons.
 const COMPARISON: usize = 3;
 
 /// The level whose operands the operator joins.
@@ -69,7 +72,7 @@ fn sign(operator: Operator) -> Option<Sign>
     }
 }
 
-/// The tokens after a closing parenthesis, if they begin with one.
+/// The tokens after a closing parenthesis, if the tokens begin with one.
 fn closed(tokens: &[Token]) -> Option<&[Token]>
     ensures { option_copied result ≡ closed_at tokens.now }
 {
@@ -79,7 +82,7 @@ fn closed(tokens: &[Token]) -> Option<&[Token]>
     }
 }
 
-/// A range, and the tokens after it.
+/// The range at the front, if one stands there, and the tokens after it.
 fn range(tokens: &[Token]) -> Option<(Rect, &[Token])>
     ensures { option_map (λ x. (x.0, x.1.now)) result ≡ range_at tokens.now }
 {
@@ -89,7 +92,8 @@ fn range(tokens: &[Token]) -> Option<(Rect, &[Token])>
     }
 }
 
-/// An operator that joins operands of a level below this one, and the tokens after it.
+/// The operator at the front, if one stands there that joins operands of a level below `loosest`, and the tokens after
+/// it.
 fn operator(loosest: usize, tokens: &[Token]) -> Option<(Operator, &[Token])>
     ensures { option_map (λ x. (x.0, x.1.now)) result ≡ operator_at loosest tokens.now }
 {
@@ -101,7 +105,7 @@ fn operator(loosest: usize, tokens: &[Token]) -> Option<(Operator, &[Token])>
     }
 }
 
-/// The longest expression of a level at the front, and the tokens after it.
+/// The longest expression of the level `loosest` at the front, and the tokens after it.
 #[cycle(parser)]
 #[tactic(auto, unfolding(crate::specs::Inside::Reading::level_at))]
 fn level(
@@ -119,7 +123,8 @@ fn level(
     more(alloc, depth - 1, loosest, left, rest)
 }
 
-/// The operand with any number of further operands, each after an operator of a level below the loosest.
+/// The expression that begins with `left` and goes on with any number of operators, each with its right operand, and
+/// the tokens after it. Each operator joins operands of a level below `loosest`.
 #[cycle(parser)]
 #[tactic(auto, unfolding(crate::specs::Inside::Reading::level_at))]
 fn more(
@@ -148,7 +153,7 @@ fn more(
     )
 }
 
-/// Any number of signs, and then a numeral, a reference, a group or a call.
+/// Any number of signs and then a numeral, a reference, a group or a call, and the tokens after it.
 #[cycle(parser)]
 #[tactic(auto, unfolding(crate::specs::Inside::Reading::level_at))]
 fn prefixed(alloc: Global, depth: usize, tokens: &[Token]) -> Result<(Expr, &[Token]), Refusal>
@@ -189,7 +194,7 @@ fn prefixed(alloc: Global, depth: usize, tokens: &[Token]) -> Result<(Expr, &[To
     }
 }
 
-/// A call, from after its opening parenthesis.
+/// A call of the function, and the tokens after it. `tokens` begin after the call's opening parenthesis.
 #[cycle(parser)]
 #[tactic(auto, unfolding(crate::specs::Inside::Reading::level_at))]
 fn call(
@@ -216,7 +221,7 @@ fn call(
     Ok((Expr::Call(function, items), rest))
 }
 
-/// The arguments so far and further ones, up to the closing parenthesis.
+/// The arguments in `before` and those at the front of the tokens, and the tokens after the closing parenthesis.
 #[cycle(parser)]
 #[tactic(auto, unfolding(crate::specs::Inside::Reading::level_at))]
 fn arguments(
@@ -237,7 +242,8 @@ fn arguments(
     after_argument(alloc, depth - 1, function, before, rest)
 }
 
-/// The rest of the arguments after one of them: the closing parenthesis, or a separator and further arguments.
+/// As `arguments`, where the tokens begin after an argument: with the closing parenthesis, or with a separator and an
+/// argument.
 #[cycle(parser)]
 #[tactic(auto, unfolding(crate::specs::Inside::Reading::level_at))]
 fn after_argument(
@@ -284,11 +290,11 @@ fn argument(
     Ok((Argument::Expression(inner), rest))
 }
 
-/// Returns the expression that all of the tokens are together.
+/// Parses all of the tokens as one expression.
 ///
 /// # Errors
 ///
-/// - `Formula`: they are no expression.
+/// - `Formula`: the tokens are no expression.
 /// - `Memory`: out of memory.
 ///
 /// Cost: linear in the tokens.

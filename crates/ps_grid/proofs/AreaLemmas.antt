@@ -67,7 +67,7 @@ is_inside-nth_cell a k g h =
       above = omega (arith, row, r);
     })
 
--- and is a cell of the grid
+-- each of its cells is a cell of the grid
 pub is_inside-below : (a : Area) (c : ℕ) → LiesInGrid a → is_inside a c ≡ true → c < CELLS
 is_inside-below a c g h =
     let s = spans_of a c h in
@@ -120,7 +120,7 @@ In-from_number a (suc n) k j low high =
     (In-from_number a n (k + 1) j (omega arith) (omega arith)))
     (cases_eq k j)
 
--- and no others
+-- and those of no other numbers
 number_from_In : (a : Area) (n k c : ℕ) → In (map (nth_cell a) (range_with_len k n)) c
     → (j : ℕ) × (k ≤ j) × (j < k + n) × (c ≡ nth_cell a j)
 number_from_In a zero k c h = absurd (let f : false ≡ true = h in cc)
@@ -131,7 +131,7 @@ number_from_In a (suc n) k c h =
     let low = m.1 in let high = m.2 in (m.0, omega arith, omega arith, m.3))
     (In-cases c (nth_cell a k) (map (nth_cell a) (range_with_len (k + 1) n)) h)
 
--- the walk has just the cells of the rectangle
+-- `cells_of` has exactly the cells of the rectangle
 pub In-cells_of : (a : Area) (c : ℕ) → is_inside a c ≡ true → In (cells_of a) c
 In-cells_of a c h =
     subst (In (cells_of a)) (nth_cell-place_of a c h)
@@ -172,15 +172,15 @@ distinct_from a (suc n) k g fits =
     IsDistinct-cons eqb (nth_cell a k) rest (apart (nth_cell a k) rest outside)
     (distinct_from a n (k + 1) g (omega arith))
 
--- each once
+-- `cells_of` has each cell once
 pub IsDistinct-cells_of : (a : Area) → LiesInGrid a → IsDistinct eqb (cells_of a)
 IsDistinct-cells_of a g = distinct_from a (area a) 0 g (omega arith)
 
--- as many as the area
+-- `cells_of` has as many cells as the area
 pub length-cells_of : (a : Area) → length (cells_of a) ≡ area a
 length-cells_of a = length-map-range_with_len (nth_cell a) 0 (area a)
 
--- which is no more than the grid has
+-- the area is no more than the cells of the grid
 pub area-le : (a : Area) → LiesInGrid a → area a ≤ CELLS
 area-le a g =
     let columns = g.within_columns in

@@ -78,7 +78,7 @@ pigeonhole n xs small long =
     (λ t. t)
     (distinct_or_twice xs)
 
--- the cells of `c ∷ rest` but its last
+-- the cells of `c ∷ rest` without its last
 but_last : ℕ → List ℕ → List ℕ
 but_last c [] = []
 but_last c (d ∷ rest) = c ∷ but_last d rest

@@ -62,7 +62,7 @@ walk refers Stuck next (suc m) c s =
     (λ cyc. inl (IsCyclic-step refers c n.0 n.1 cyc))
     n.2
 
--- cells each of which refers to one of them, or to a cyclic cell, are cyclic
+-- cells that each refer to one of them, or to a cyclic cell, are cyclic
 pub IsCyclic-stuck : (refers : References) (n : ℕ) → OnlyBelow n refers → (Stuck : ℕ → Type 0)
     → ((c : ℕ) → Stuck c → (d : ℕ) × (refers c d ≡ true) × (Stuck d ⊎ IsCyclic refers d))
     → (c : ℕ) → Stuck c → IsCyclic refers c
@@ -72,7 +72,7 @@ IsCyclic-stuck refers n below Stuck next c s =
     (λ w. (w.0, w.1, long_chain_repeats refers n below c w.0 w.1 (let e = w.3 in omega arith)))
     (walk refers Stuck next (suc n) c s)
 
--- cells each of which refers to one of them are cyclic
+-- cells that each refer to one of them are cyclic
 pub stuck_is_cyclic : (refers : References) (n : ℕ) → OnlyBelow n refers → (Stuck : ℕ → Type 0)
     → ((c : ℕ) → Stuck c → (d : ℕ) × (refers c d ≡ true) × Stuck d)
     → (c : ℕ) → Stuck c → IsCyclic refers c

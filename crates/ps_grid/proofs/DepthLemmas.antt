@@ -15,7 +15,7 @@ chain_le_level refers Settled level some falls c (d ∷ rest) ch all =
     let ih = chain_le_level refers Settled level some falls d rest ch.1 tail in
     let lt = falls c d (All-head Settled c (d ∷ rest) all) (All-head Settled d rest tail) ch.0 in omega arith
 
--- and some chain is as long
+-- and some chain of settled cells is as long as the level
 chain_of_level : (refers : References) (Settled : ℕ → Type 0) (level : ℕ → ℕ)
     → ((c k : ℕ) → Settled c → level c ≡ suc (suc k) → (d : ℕ) × (refers c d ≡ true) × Settled d × (level d ≡ suc k))
     → (k c : ℕ) → Settled c → level c ≡ suc k

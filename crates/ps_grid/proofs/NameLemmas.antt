@@ -37,7 +37,7 @@ column_name-two column h = grind (arith, common_steps)
 pub column_name-one : (column : ℕ) → column < LETTERS → column_name column ≡ letter_of column ∷ []
 column_name-one column h = grind (arith, common_steps)
 
--- what one letter names, and what two do
+-- the column that one letter names, and the one that two letters name
 module _ (a b k : ℕ) where
   pub one_letter : b ∷ [] ≡ column_name k → (k < LETTERS) × (b ≡ letter_of k)
   one_letter e =
@@ -183,7 +183,7 @@ module _ (c : ℕ) (below : c < CELLS) (text : List ℕ) (is : text ≡ cell_nam
       (λ i. drop (letters_long i) (is i))
       ∙ drop-append_seam (column_name (column_of c)) (decimal (row_of c))
 
--- what is counted among the first bytes, where no more than these are to be counted
+-- the first n items have as many in front that pass the test as all items, if that is at most n
 length-take_while-take : (test : ℕ → Bool) (n : ℕ) (xs : List ℕ) → length (take_while test xs) ≤ n
     → length (take_while test (take n xs)) ≡ length (take_while test xs)
 length-take_while-take test zero xs few = omega (arith, few)

@@ -21,8 +21,8 @@ least_along refers touched P holds closed c [] ch h = holds c h
 least_along refers touched P holds closed c (d ∷ rest) ch h =
     closed c d ch.0 (least_along refers touched P holds closed d rest ch.1 h)
 
--- the region is least: what holds of the touched cells, and of each cell that refers to one of which it holds,
--- holds of the region
+-- the region is least: a fact of the touched cells holds of the whole region, if it carries over from each cell to
+-- the cells that refer to it
 pub InRegion-least : (refers : References) (touched : List ℕ) (P : ℕ → Type 0)
     → ((c : ℕ) → In touched c → P c)
     → ((c d : ℕ) → refers c d ≡ true → P d → P c)

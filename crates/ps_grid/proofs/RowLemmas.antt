@@ -22,7 +22,7 @@ no_row ds o none refuted row = (
   λ h. absurd (refuted row h.0 h.1 h.2),
 )
 
--- what is written of a row is short, has no zero in front, and is a numeral of the row
+-- the decimal text of a row is short, has no zero in front, and is a numeral of the row
 module _ (ds : List ℕ) (row : ℕ) (above : 1 ≤ row) (inside : row ≤ ROWS) (is : ds ≡ decimal row) where
   pub row_is_short : length ds ≤ NAME_BYTES
   row_is_short = omega (arith, length-decimal-le 4 row (omega arith) (omega arith) (omega arith), ap length is)
@@ -37,12 +37,12 @@ module _ (ds : List ℕ) (row : ℕ) (above : 1 ≤ row) (inside : row ≤ ROWS)
   row_is_numeral =
       subst (λ l. IsNumeral 10 l × (digits_value 10 l ≡ row)) (sym is) (decimal_is_IsNumeral row (omega arith))
 
--- a text with no zero in front is not that of 0
+-- a text with no zero in front is not the text of 0
 positive : (ds : List ℕ) (n : ℕ) → ds ≡ decimal n → (get_or ds 0 0 ≡ 48 → ⊥) → 1 ≤ n
 positive ds zero is starts = absurd (starts (ap (λ l. get_or l 0 0) (is ∙ decimal_digit 0 (omega arith))))
 positive ds (suc n) is starts = omega arith
 
--- a numeral with no zero in front is what is written of its value
+-- a numeral with no zero in front is the decimal text of its value
 pub row_of_value : (ds : List ℕ) (n : ℕ) → IsNumeral 10 ds → (get_or ds 0 0 ≡ 48 → ⊥) → n ≡ digits_value 10 ds
     → n ≤ ROWS → HasRow (Some n) ds
 row_of_value ds n numeral no_zero value inside row =

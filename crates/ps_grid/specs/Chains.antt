@@ -11,7 +11,7 @@ References = ℕ → ℕ → Bool
 abbrev pub In : List ℕ → ℕ → Type 0
 In cells c = list_any (nat_eq c) cells ≡ true
 
--- `c ∷ rest` is a chain: each next cell is one that the one before it refers to
+-- `c ∷ rest` is a chain: each cell in it refers to the next one
 abbrev pub IsChain : References → ℕ → List ℕ → Type 0
 IsChain refers c [] = Unit {0}
 IsChain refers c (d ∷ rest) = (refers c d ≡ true) × IsChain refers d rest
@@ -30,17 +30,17 @@ HoldsTwice (c ∷ rest) = In rest c ⊎ HoldsTwice rest
 abbrev pub IsCyclic : References → ℕ → Type 0
 IsCyclic refers c = (rest : List ℕ) × IsChain refers c rest × HoldsTwice (c ∷ rest)
 
--- some chain from c ends at a touched cell
+-- some chain from c ends at a cell that the change touches
 abbrev pub InRegion : References → List ℕ → ℕ → Type 0
 InRegion refers touched c = (rest : List ℕ) × IsChain refers c rest × In touched (last_of c rest)
 
--- the greatest number of cells of a chain from c within `Within` is k
+-- k is the greatest number of cells of a chain from c whose cells are all in `Within`
 abbrev pub IsDepth : References → (ℕ → Type 0) → ℕ → ℕ → Type 0
 IsDepth refers Within c k =
     ((rest : List ℕ) × IsChain refers c rest × All Within (c ∷ rest) × (length (c ∷ rest) ≡ k))
     × ((rest : List ℕ) → IsChain refers c rest → All Within (c ∷ rest) → length (c ∷ rest) ≤ k)
 
--- only cells below n refer to others
+-- only cells with an index below n refer to others
 abbrev pub OnlyBelow : ℕ → References → Type 0
 OnlyBelow n refers = (c d : ℕ) → refers c d ≡ true → c < n
 

@@ -1,2 +1,2 @@
--- What the types of this crate hold, in words that no public contract cites.
+-- What the types of this crate store, in definitions that no public contract cites.
 pub mod Walking

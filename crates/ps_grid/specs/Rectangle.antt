@@ -21,7 +21,7 @@ pub record LiesInGrid (a : Area) : Type 0 where
 abbrev pub area : Area → ℕ
 area a = a.width * a.height
 
--- the cell so many columns from the left side and so many rows from the upper side
+-- the cell this many columns to the right of the first cell, and this many rows below it
 abbrev pub cell_within : Area → ℕ → ℕ → ℕ
 cell_within a across down = (a.top + down) * COLUMNS + (a.left + across)
 
@@ -29,11 +29,11 @@ cell_within a across down = (a.top + down) * COLUMNS + (a.left + across)
 abbrev pub nth_cell : Area → ℕ → ℕ
 nth_cell a k = cell_within a (k % a.width) (k / a.width)
 
--- its cells, row by row
+-- the cells of a rectangle, row by row
 abbrev pub cells_of : Area → List ℕ
 cells_of a = map (nth_cell a) (range_with_len 0 (area a))
 
--- the number of a cell among its cells, from 0, row by row
+-- the position of a cell in `cells_of`, from 0
 abbrev pub place_of : Area → ℕ → ℕ
 place_of a c = (c / COLUMNS - a.top) * a.width + (c % COLUMNS - a.left)
 
@@ -49,7 +49,7 @@ first_cell a = a.top * COLUMNS + a.left
 abbrev pub last_cell : Area → ℕ
 last_cell a = (a.top + a.height - 1) * COLUMNS + (a.left + a.width - 1)
 
--- the smallest rectangle with two cells
+-- the smallest rectangle that contains both cells
 abbrev pub spanned : ℕ → ℕ → Area
 spanned c d = record {
   left = min (c % COLUMNS) (d % COLUMNS);

@@ -1,4 +1,4 @@
-//! The cells of the grid.
+//! Cells of the grid: their index, column, row and name.
 
 ghost use Rattle.std.specs.Prelude.{◌≡◌, ◌↔◌, ℕ, ◌+◌, ◌*◌, ◌<◌, ◌≤◌, ◌++◌, drop, length, take, take_while, IfSome};
 ghost use Rattle.std.specs.Char.{is_ascii_uppercase};
@@ -10,7 +10,9 @@ use crate::digits::read_digits;
 use crate::size::{CELLS, COLUMNS, LETTERS, NAME_BYTES, ROWS};
 use std::marker::Model;
 
-/// A cell of the grid. A contract sees it as its index, below `CELLS`: row by row, each row from column 0 on.
+/// A cell of the grid. In contracts it is its index, below `CELLS`.
+///
+/// Cells are numbered from 0: row by row, each row from column 0 on.
 #[derive(Clone, Copy, Debug, PartialEq, Eq, PartialOrd, Ord, Hash)]
 pub struct Cell {
     place: u32,
@@ -54,7 +56,7 @@ impl Cell {
         }
     }
 
-    /// Returns the index of the cell: row by row, each row from column 0 on.
+    /// Returns the index of the cell. Cells are numbered from 0: row by row, each row from column 0 on.
     pub fn index(self) -> usize
         ensures index { result ≡ self }
         ensures in_grid { result < CELLS }
@@ -86,11 +88,11 @@ impl Cell {
     /// Returns the cell that a text names; `None` where it names no cell.
     ///
     /// A name is the letters of a column, A to CZ, and the digits of a row, 1 to 1024, with no leading zero. Nothing
-    /// else may stand in it. A text of more than `NAME_BYTES` bytes is refused unread.
+    /// else may stand in it. A text of more than `NAME_BYTES` bytes names no cell, and isn't read.
     pub fn read(text: &[u8]) -> Option<Cell>
         ensures { (c : ℕ) → (result ≡ Some c) ↔ ((c < CELLS) × (text.now ≡ cell_name c)) }
     {
-        // a letter and a digit at least
+        // a name has at least a letter and a digit
         if text.len() < 2 {
             return None;
         }
@@ -103,8 +105,8 @@ impl Cell {
 
     /// Returns the cell whose column has the name `letters` and whose row is written in `digits`.
     ///
-    /// Returns `None` where the grid has no such cell, and where the digits begin with a zero. More than `NAME_BYTES`
-    /// digits are refused unread.
+    /// Returns `None` if the grid has no such cell, or if the digits begin with a zero. More than `NAME_BYTES` digits
+    /// name no row, and aren't read.
     #[inline(always)]
     pub fn named(letters: &[u8], digits: &[u8]) -> Option<Cell>
         ensures { (c : ℕ) → (result ≡ Some c)
@@ -117,8 +119,8 @@ impl Cell {
 
     /// Writes the name of the cell at the front of `out`, and returns the length of the name in bytes.
     ///
-    /// The name is the letters of the column, A to CZ, and the row in decimal, 1 to 1024. The bytes after it stay as
-    /// they are.
+    /// The name is the letters of the column, A to CZ, and the row in decimal, 1 to 1024. The bytes of `out` after the
+    /// name stay as they are.
     pub fn write(self, out: &mut [u8; NAME_BYTES]) -> usize
         ensures name { take result out.new ≡ cell_name self }
         ensures rest { drop result out.new ≡ drop result out.old }
@@ -168,7 +170,7 @@ fn letter_count(text: &[u8]) -> usize
     }
 }
 
-/// The column that letters name, if the grid has it.
+/// Returns the column that the letters name, from 0; `None` if the grid has no such column.
 #[inline(always)]
 fn column_named(letters: &[u8]) -> Option<u8>
     ensures { (column : ℕ) → (result ≡ Some column) ↔ ((column < COLUMNS) × (letters.now ≡ column_name column)) }
@@ -181,7 +183,7 @@ fn column_named(letters: &[u8]) -> Option<u8>
     }
 }
 
-/// The column that one or two letters name, whether the grid has it or not.
+/// Returns the column that one or two letters name, from 0, even if it lies outside the grid.
 #[inline(always)]
 fn column_number(letters: &[u8]) -> Option<usize>
     ensures { (column : ℕ) → (result ≡ Some column)
@@ -198,7 +200,7 @@ fn column_number(letters: &[u8]) -> Option<usize>
     }
 }
 
-/// The number of a letter: 0 for A, to 25 for Z.
+/// Returns the number of an upper-case letter: 0 for A, to 25 for Z. Returns `None` for any other byte.
 #[inline(always)]
 fn letter_number(letter: u8) -> Option<usize>
     ensures number { (number : ℕ) → (result ≡ Some number) ↔ ((number < LETTERS) × (letter ≡ letter_of number)) }
@@ -211,7 +213,7 @@ fn letter_number(letter: u8) -> Option<usize>
     }
 }
 
-/// The row that digits write, if the grid has it.
+/// Returns the row that the digits stand for, from 1; `None` if the grid has no such row.
 #[inline(always)]
 fn row_named(digits: &[u8]) -> Option<u16>
     ensures { (row : ℕ) → (result ≡ Some row) ↔ ((1 ≤ row) × (row ≤ ROWS) × (digits.now ≡ decimal row)) }
@@ -232,7 +234,7 @@ fn row_named(digits: &[u8]) -> Option<u16>
     Some(row as u16)
 }
 
-/// The letter of a number: A for 0, to Z for 25.
+/// Returns the letter of a number: A for 0, to Z for 25.
 fn letter(number: usize) -> u8
     requires { number < LETTERS }
     ensures { result ≡ letter_of number }
@@ -240,7 +242,7 @@ fn letter(number: usize) -> u8
     b'A' + number as u8
 }
 
-/// Writes a row in decimal at a place of `out`, and returns the place after it.
+/// Writes the row in decimal from position `place` of `out` on, and returns the position after its last digit.
 fn put_decimal(out: &mut [u8; NAME_BYTES], place: usize, row: u16) -> usize
     requires { place + length (decimal row) ≤ NAME_BYTES }
     ensures digits { take result out.new ≡ take place out.old ++ decimal row }

@@ -5,12 +5,12 @@ ghost use Rattle.std.specs.Char.{digit_value};
 ghost use Rattle.std.specs.Option.{SomeIff};
 ghost use Rattle.std.specs.Str.Parse.{AllDigits, IsNumeral, digits_value};
 
-/// A number of at most this many digits has at most 64 bits.
+/// A number of at most this many digits always fits 64 bits.
 const SAFE_DIGITS: usize = 19;
 
-/// Returns the number that the decimal digits write. Leading zeros are allowed.
+/// Returns the number that the decimal digits stand for. Leading zeros are allowed.
 ///
-/// Returns `None` where there is no digit, where a byte is no digit, and where the number has more than 64 bits.
+/// Returns `None` if there are no bytes, if one of them isn't a digit, or if the number has more than 64 bits.
 ///
 /// Cost: linear in the bytes.
 pub fn read_digits(digits: &[u8]) -> Option<u64>
@@ -26,7 +26,7 @@ pub fn read_digits(digits: &[u8]) -> Option<u64>
     read_few(digits)
 }
 
-/// The number that at most `SAFE_DIGITS` digits write, if each byte is a digit.
+/// Returns the number that at most `SAFE_DIGITS` digits stand for; `None` if a byte isn't a digit.
 #[inline(always)]
 fn read_few(digits: &[u8]) -> Option<u64>
     requires { length digits.now ≤ SAFE_DIGITS }
@@ -39,7 +39,7 @@ fn read_few(digits: &[u8]) -> Option<u64>
     Some(number)
 }
 
-/// The number that digits write, if each byte is a digit and the number has at most 64 bits.
+/// Returns the number that the digits stand for; `None` if a byte isn't a digit, or if the number exceeds 64 bits.
 fn read_many(digits: &[u8]) -> Option<u64>
     ensures { SomeIff result (AllDigits 10 digits.now × (digits_value 10 digits.now < 2 ^ 64))
         (digits_value 10 digits.now) }
@@ -51,7 +51,7 @@ fn read_many(digits: &[u8]) -> Option<u64>
     Some(number)
 }
 
-/// The number of a digit: 0 for `0`, to 9 for `9`; none where the byte is no digit.
+/// Returns the value of a digit: 0 for `0`, to 9 for `9`. Returns `None` for any other byte.
 #[inline(always)]
 fn digit_number(byte: u8) -> Option<u64>
     ensures { SomeIff result (digit_value byte < 10) (digit_value byte) }

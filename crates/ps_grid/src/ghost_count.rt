@@ -1,11 +1,13 @@
-//! Counts that contracts alone see.
+//! Counters that exist only in contracts.
 ghost use Rattle.std.specs.Prelude.{◌≡◌, ◌+◌};
 ghost use Rattle.ps_grid.specs.Blanks.{IsBlankOf};
 
 use std::marker::Model;
 use std::sync::ledger::{Blank, Book, Ledger, Share};
 
-/// A count that contracts see. It takes no bytes, has no greatest value and never falls.
+/// A counter that exists only in contracts: at run time it takes no bytes and does nothing.
+///
+/// It has no greatest value and never falls. It is stored in a ledger, a ghost sum of std.
 #[derive(Drop)]
 pub struct GhostCount<L: Ledger> {
     /// the count, as the total of a ledger
@@ -25,7 +27,7 @@ impl<L: Ledger> Model for GhostCount<L> {
 }
 
 impl<L: Ledger> GhostCount<L> {
-    /// Creates a count of 0, over a new ledger.
+    /// Creates a counter at 0, stored in the ledger that `blank` opens.
     pub fn new(blank: Blank) -> GhostCount<L>
         requires { IsBlankOf blank L.name L.parts }
         ensures { result ≡ 0 }
@@ -34,14 +36,14 @@ impl<L: Ledger> GhostCount<L> {
         GhostCount { book, share }
     }
 
-    /// Counts one more.
+    /// Raises the counter by 1.
     pub fn rise(&mut self)
         ensures { self.new ≡ self.old + 1 }
     {
         self.add(1);
     }
 
-    /// Counts `amount` more.
+    /// Raises the counter by `amount`.
     pub fn add(&mut self, amount: u64)
         ensures { self.new ≡ self.old + amount }
     {

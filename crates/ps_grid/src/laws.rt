@@ -8,9 +8,9 @@ pub fn refusal_numbers_differ()
     ensures { NumbersDiffer }
 {}
 
-/// States that a list of more cells than the grid has holds a cell twice.
+/// States that a list of more than `CELLS` cells holds some cell twice.
 ///
-/// So does a chain of more references than the grid has cells.
+/// So does a chain of more than `CELLS` references. In a chain each cell's formula refers to the next cell.
 pub fn long_chains_repeat()
     ensures lists { LongListsRepeat }
     ensures chains { LongChainsRepeat }

@@ -1,5 +1,6 @@
-//! The ground of the sheet: its size, its cells and rectangles, and numbers in digits. It also has the limits on
-//! replicas, workers and sessions, the refusals of all calls, and what "a chain of references" means.
+//! What all other crates build on: the size of the grid, its cells and rectangles, and numbers in digits. It also has
+//! the limits on replicas, workers and sessions, and the refusals: the reasons why calls fail. Its definitions say what
+//! a chain of references is.
 //!
 //! It is not the sheet: it knows no values, no formulas and no edits.
 //!
@@ -7,10 +8,11 @@
 //! to `B3` has the four cells `A2`, `B2`, `A3`, `B3`, in this order.
 //!
 //! The contract to use: a `Cell` is its index, below `CELLS`. `Cell::read` finds exactly the cell that has the name. A
-//! `Rect` is its `Area`, which lies in the grid. `Rect::cells` walks exactly the cells that it contains, each once.
+//! `Rect` is its `Area`: left column, top row, width and height, inside the grid. `Rect::cells` yields exactly the
+//! rectangle's cells, each once.
 //!
-//! Cost: a walk of a rectangle takes time linear in its area, and `read_digits` in its bytes. Every other call is
-//! constant.
+//! Cost: going through a rectangle's cells takes time linear in its area, and `read_digits` in its bytes. Every other
+//! call takes constant time.
 #![tactic(auto)]
 
 mod cell;

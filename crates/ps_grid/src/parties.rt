@@ -1,12 +1,12 @@
-//! How many take part.
+//! Limits on replicas, workers and sessions.
 
-/// The greatest number of a replica; the least is 1. So one table has at most this many replicas.
+/// The most replicas of one table. Replicas are numbered from 1 to this.
 ///
-/// A counter and a set keep entries of each replica, so the longest line of a delta grows with it.
+/// Counters and sets store entries of each replica, so the longest line of a delta grows with this limit.
 pub const REPLICAS: u8 = 32;
 
 /// The most workers that evaluate the formulas of one sheet together; the least is 1.
 pub const WORKERS: usize = 16;
 
-/// The most session slots of a sheet that several sessions share; the least is 1.
+/// The most session slots of a shared sheet, one for each session at a time; the least is 1.
 pub const SEATS: usize = 256;

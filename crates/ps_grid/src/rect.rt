@@ -10,7 +10,8 @@ use crate::cell::Cell;
 use crate::size::{COLUMNS, ROWS};
 use std::marker::Model;
 
-/// A rectangle of cells, at least one. A contract sees it as its `Area`.
+/// A rectangle of at least one cell. In contracts it is its `Area`: the left column and the top row, both from 0, and
+/// how many columns and rows it has.
 #[derive(Clone, Copy, Debug, PartialEq, Eq, PartialOrd, Ord, Hash)]
 pub struct Rect {
     left: u8,
@@ -32,7 +33,7 @@ impl Model for Rect {
 }
 
 impl Rect {
-    /// Returns the smallest rectangle with both cells. They are opposite corners of it, given in any order.
+    /// Returns the smallest rectangle that contains both cells. They are two opposite corners of it, in any order.
     pub fn new(a: Cell, b: Cell) -> Rect
         ensures spanned { result ≡ spanned a b }
         ensures in_grid { LiesInGrid result }
@@ -103,9 +104,9 @@ impl Rect {
         Cell::at(column, row)
     }
 
-    /// Returns a walk of the cells of the rectangle, row by row, each once.
+    /// Returns an iterator over the cells of the rectangle, row by row, each once.
     ///
-    /// Cost: constant for each cell of the walk, without a division.
+    /// Cost: constant for each cell, without a division.
     pub fn cells(self) -> RectCells
         ensures cells { result ≡ cells_of self }
         ensures inside { (c : ℕ) → list_any (nat_eq c) result ≡ is_inside self c }
@@ -120,7 +121,7 @@ impl Rect {
         }
     }
 
-    /// Returns the cell that lies `across` columns from the left side and `down` rows from the upper side.
+    /// Returns the cell that lies `across` columns to the right of the top left cell, and `down` rows below it.
     pub fn at(self, across: usize, down: usize) -> Cell
         requires across { across < self.width }
         requires down { down < self.height }
@@ -130,14 +131,15 @@ impl Rect {
     }
 }
 
-/// A walk of a rectangle, row by row. A contract sees it as the list of the cells that are still to come.
+/// An iterator over the cells of a rectangle, row by row. In contracts it is the list of the cells still to come.
 #[derive(Drop)]
 pub struct RectCells {
     rect: Rect,
     /// how many cells are still to come
     left: usize,
-    /// the index of the next of them, and how many cells of its row come before it
+    /// the index of the next cell
     place: usize,
+    /// how many cells of the rectangle come before it in its row
     across: usize,
 }
 

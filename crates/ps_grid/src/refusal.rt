@@ -1,4 +1,4 @@
-//! The refusals of all calls.
+//! Refusals: the reasons why calls fail.
 
 ghost use Rattle.std.specs.Prelude.{◌≡◌};
 ghost use Rattle.ps_grid.specs.declared.refusal.Refusal.TheVariants.{Memory};
@@ -7,45 +7,45 @@ ghost use Rattle.ps_grid.specs.Refusals.{name_of, number_of};
 use std::alloc::{AllocError, AllocFailed};
 use std::fmt;
 
-/// Why a call did nothing.
+/// Why a call was refused. A refused call changes nothing, unless the call's own comment says otherwise.
 ///
-/// Each refusal has a number, from 1 on, and a name. Its text is the line that reports it, without the line feed:
-/// `err`, the number and the name.
+/// Each refusal has a number, from 1 on, and a name. `Display` writes the line that reports it, without the line feed:
+/// `err`, the number and the name, such as `err 4 too-long`.
 #[derive(Clone, Copy, Debug, PartialEq, Eq, PartialOrd, Ord, Hash)]
 pub enum Refusal {
     /// 1: a text that names no cell of the grid.
     Cell,
-    /// 2: a text entry that is empty, too long, no UTF-8, or with a control character.
+    /// 2: a text entry that is empty, is too long, isn't UTF-8, or has a byte below 32 or a byte 127.
     Text,
     /// 3: a formula entry outside the grammar.
     Formula,
     /// 4: an entry, a canonical formula or a delta's line that is too long.
     TooLong,
-    /// 5: a change of a tally at a cell that holds none.
+    /// 5: a change of a tally (a counter) at a cell that holds none.
     NotTally,
-    /// 6: a change of a choice at a cell that holds none.
+    /// 6: a change of a choice (a set of options) at a cell that holds none.
     NotChoice,
-    /// 7: an amount out of range.
+    /// 7: an amount, added to a tally or subtracted from it, that is out of range.
     Amount,
-    /// 8: an option out of range.
+    /// 8: an option of a choice that is out of range.
     OptionRange,
-    /// 9: a replica out of range.
+    /// 9: a replica's number out of range, or a word that is neither such a number nor a digest.
     Replica,
-    /// 10: a count of a tally would pass its greatest value.
+    /// 10: a replica's total in a tally would pass its greatest value.
     TallyFull,
-    /// 11: the replica has used its last sequence of a choice.
+    /// 11: the replica has used its last sequence number in a choice.
     ChoiceFull,
-    /// 12: the option isn't chosen.
+    /// 12: the removal of an option that isn't chosen.
     NotChosen,
-    /// 13: the register has the last time.
+    /// 13: the timestamp of a cell's content has the greatest time, so no edit can get a later one.
     ClockFull,
-    /// 14: bytes that are no delta's line.
+    /// 14: bytes that aren't a delta's line.
     Delta,
-    /// 15: a session line that is too long, or a reply that wasn't expected.
+    /// 15: a session line that is too long, or a server's reply that is missing or unexpected.
     Line,
     /// 16: a line that is no command.
     Command,
-    /// 17: a number that is no version.
+    /// 17: a word that is no version of the history, or a group size out of range.
     Version,
     /// 18: a table that is too large or malformed.
     Csv,
@@ -53,7 +53,8 @@ pub enum Refusal {
     Memory,
     /// 20: a reader or a writer failed.
     Device,
-    /// 21: no session slot is left, or the sheet's published copies are gone or have no reader left.
+    /// 21: no session slot is left. Or the published copies of the sheet, which sessions read, are gone or admit no
+    /// more readers.
     Seat,
 }
 
@@ -109,7 +110,7 @@ impl Refusal {
         }
     }
 
-    /// Returns the name of the refusal.
+    /// Returns the name of the refusal, such as `too-long`.
     pub fn name(&self) -> &'static str
         ensures { result.now ≡ name_of self.now }
     {

@@ -4,22 +4,22 @@
 //!   letter or two, so there are at most `LETTERS + LETTERS * LETTERS` of them, which is 702.
 //! - `ROWS`: a row is a `u16`, and so is a rectangle's height. In a name its digits follow two letters, so rows stay
 //!   below 10,000 while `NAME_BYTES` is 6.
-//! - `CELLS`: an index is stored in a `u32`. Opening a sheet makes a list with a position for each cell. The bytes of
-//!   the largest table that can be read in grow with it.
-//! - `NAME_BYTES`: every buffer for a name has as many bytes.
+//! - `CELLS`: an index is stored in a `u32`. A new sheet allocates lists with a position for each cell. The most bytes
+//!   of an imported table grow with this number.
+//! - `NAME_BYTES`: every buffer for a name has this many bytes.
 //!
-//! So the columns can double and nothing else changes here; with 10,000 rows names get longer.
+//! So `COLUMNS` can double, and nothing else changes here. From 10,000 rows on, `NAME_BYTES` has to grow.
 
-/// The columns of the grid: A to CZ.
+/// The number of columns: A to CZ.
 pub const COLUMNS: usize = 104;
 
-/// The rows of the grid: 1 to 1,024.
+/// The number of rows: 1 to 1,024.
 pub const ROWS: usize = 1_024;
 
-/// The cells of the grid.
+/// The number of cells.
 pub const CELLS: usize = ROWS * COLUMNS;
 
-/// The letters that name columns: A to Z.
+/// The number of letters that name columns: A to Z.
 pub const LETTERS: usize = 26;
 
 /// The most bytes of a cell's name: two letters and four digits.

@@ -1,4 +1,4 @@
-//! Equal copies of what may own memory.
+//! Copies of values that may own memory.
 
 ghost use Rattle.std.specs.Prelude.{◌≡◌, IfOk, Err};
 ghost use Rattle.ps_grid.specs.declared.refusal.Refusal.{Refusal};
@@ -6,9 +6,9 @@ ghost use Rattle.ps_grid.specs.declared.refusal.Refusal.{Refusal};
 use crate::refusal::Refusal;
 use std::alloc::Global;
 
-/// A value that can be copied, unless memory runs out.
+/// A value that can be copied, unless memory runs out: a `Clone` that can fail.
 pub trait Twin: Sized {
-    /// Returns an equal value; refused only when out of memory.
+    /// Returns an equal value. Refused only when out of memory.
     ///
     /// Cost: at most linear in the size of the value.
     fn twin(&self, alloc: Global) -> Result<Self, Refusal>

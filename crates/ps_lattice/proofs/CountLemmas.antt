@@ -1,4 +1,4 @@
--- What lists of counts are joined.
+-- Joins of lists of counts.
 use Rattle.std.proofs.Common.{◌≡◌, ℕ, ◌≤◌, true, List, [], ◌∷◌, sym, ap, ◌∙◌, arith, max}
 use Rattle.std.specs.List.{list_all}
 use Rattle.std.specs.Ordering.{nat_cmp}
@@ -14,7 +14,7 @@ use Rattle.ps_lattice.proofs.Covering.{none_is_below}
 use Rattle.ps_lattice.proofs.Joining.{entries_same, entries_swapped, entries_at_key}
 use Rattle.ps_lattice.proofs.Views.{entries_of}
 
--- what a list in range is seen as has its entries in range
+-- the map of a list in range has its entries in range
 pub seen_in_range : (es : List (ℕ × Count)) → is_tally es ≡ true
     → is_tally (map.entries (map.from_sorted {R = nat_cmp} es)) ≡ true
 seen_in_range es h =

@@ -1,4 +1,4 @@
--- What of a list of entries is new to another one.
+-- What in a list of entries is new to another list.
 use Rattle.std.proofs.Common.{◌≡◌, ℕ, Bool, true, false, cond, ◌&&◌, List, [], ◌∷◌}
 use Rattle.std.proofs.Common.{Option, Some, None, refl, sym, ap, ◌∙◌, subst, arith, ◌||◌, nat_le, unwrap_or}
 use Rattle.std.specs.Prelude.{if◌then◌else◌}
@@ -96,7 +96,7 @@ module _ {K X : Type 0} (R : K → K → Ordering) (g : Option X → X → Optio
           subst (λ v. IsNewsOf (both_of f) (map.find R q mine) (map.find R q es) v)
           (find_there q e (news_entries R g mine es) (g (map.find R e.0 mine) e.1) apart) before
 
-      -- what is found at a key is what is new of what is found there
+      -- the value at a key of the result is the new part of the value at that key
       find_news : (q : K) (mine theirs : List (K × X)) → map.is_sorted R theirs ≡ true
           → IsNewsOf (both_of f) (map.find R q mine) (map.find R q theirs)
           (map.find R q (news_entries R g mine theirs))
@@ -120,7 +120,7 @@ module _ {K X : Type 0} (R : K → K → Ordering) (g : Option X → X → Optio
           (seen_at q (news_entries R g mine theirs) (sorted_news mine theirs ht))
           (find_news q mine theirs ht)))
 
-      -- what the list is seen as is what is new of what the second list is seen as
+      -- as a map, the result is what is new in the map of the second list
       pub seen_news : IsAntisymmetric R → (mine theirs news : List (K × X)) (s d : map.FinMap R X)
           → map.is_sorted R mine ≡ true → map.is_sorted R theirs ≡ true
           → news ≡ news_entries R g mine theirs → map.from_sorted mine ≡ s → map.from_sorted theirs ≡ d

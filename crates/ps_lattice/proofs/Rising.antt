@@ -175,7 +175,7 @@ module _ {K X : Type 0} (R : K → K → Ordering) (o : IsTotalOrder R) where
       sym ge ∙ ap (λ (p : (K × X) × (K × X)). is_lt (R p.0.0 p.1.0)) (λ i. (at_a i, at_b i)) ∙ ap is_lt less
   not_sorted_by es k a b within at_a at_b ge false h = refl
 
-  -- two neighbors of which the first isn't less
+  -- two neighbours, the first not less than the second
   pub not_sorted : (es : List (K × X)) (i : ℕ) (a b : K × X) → 1 ≤ i → i < length es
       → a ≡ get_or es (i - 1) a → b ≡ get_or es i b → is_lt (R a.0 b.0) ≡ false → false ≡ map.is_sorted R es
   not_sorted es zero a b low within at_a at_b ge = absurd (omega arith)

@@ -1,4 +1,4 @@
--- What a list of entries is seen as.
+-- The map that contracts see for a list of entries (its view).
 use Rattle.std.proofs.Common.{◌≡◌, length, Bool, true, false, ◌&&◌, cond, List, [], ◌∷◌, ◌==◌, Option, Some, None, refl}
 use Rattle.std.proofs.Common.{sym, ap, ◌∙◌, ◌↔◌, IsTrue}
 use Rattle.std.specs.declared.cmp.Ordering.{Ordering}
@@ -14,17 +14,17 @@ use Rattle.ps_lattice.specs.MapLaws.{get-joined_maps}
 use Rattle.ps_lattice.proofs.Rising.{and_left, to_T, from_T}
 
 module _ {K X : Type 0} (R : K → K → Ordering) where
-  -- the entries of what a sorted list is seen as are the list
+  -- the entries of a sorted list's map are the list
   pub entries_of : (es : List (K × X)) → map.is_sorted R es ≡ true → es ≡ map.entries (map.from_sorted {R = R} es)
   entries_of es h = sym (entries-from_sorted R es (to_T _ h))
 
-  -- the items of a list that is in order and in range are the entries of what it is seen as
+  -- the items of a list that is in order and in range are the entries of its map
   pub items_are : (fits : K × X → Bool) (es items : List (K × X)) (m : map.FinMap R X)
       → (map.is_sorted R es && list_all fits es) ≡ true → items ≡ es → map.from_sorted es ≡ m → items ≡ map.entries m
   items_are fits es items m well is seen =
       is ∙ entries_of es (and_left (map.is_sorted R es) (list_all fits es) well) ∙ ap map.entries seen
 
-  -- a map is what its entries are seen as
+  -- a map is the map of its entries
   pub from_entries_of : (m : map.FinMap R X) → map.from_sorted {R = R} (map.entries m) ≡ m
   from_entries_of m = same_entries_map (map.from_sorted {R = R} (map.entries m)) m
       (entries-from_sorted R (map.entries m) (entries_sorted m))

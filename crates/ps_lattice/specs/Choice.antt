@@ -1,6 +1,6 @@
 -- A set of options from which only what was observed is removed (an observed-remove set): a set of added pairs,
 -- each of an option and a fresh tag (a replica and a sequence number of its own), and a set of removed pairs, part
--- of the added ones. An option is in while an added pair of it isn't removed. Two join by the union of each set.
+-- of the added ones. An option is in while an added pair of it isn't removed. A join of two choices unites both sets.
 use Rattle.std.specs.Prelude.{ℕ, max, Bool, true, false, not, ◌&&◌, ◌||◌, ◌==◌, nat_le, nat_lt, List, [], ◌∷◌}
 use Rattle.std.specs.Prelude.{map as each, filter, unwrap_or}
 use Rattle.std.specs.List.{list_any, list_all}
@@ -39,11 +39,11 @@ is_live option e = (e.0.option == option) && not e.1
 abbrev pub is_chosen : Pairs → ℕ → Bool
 is_chosen c option = list_any (is_live option) (map.entries c)
 
--- the union of the added pairs, and of the removed ones
+-- the union of the added pairs, and the union of the removed ones
 abbrev pub joined_choices : Pairs → Pairs → Pairs
 joined_choices c d = joined_maps ◌||◌ c d
 
--- the greatest of a list, and 0 of none
+-- the greatest number of a list; 0 if it is empty
 abbrev pub greatest : List ℕ → ℕ
 greatest [] = 0
 greatest (x ∷ xs) = max x (greatest xs)
@@ -60,7 +60,7 @@ last_sequence c replica = last_of replica (map.entries c)
 abbrev pub with_pair : Pairs → ℕ → ℕ → ℕ → Pairs
 with_pair c option replica sequence = map.insert c (pair_of option replica sequence) false
 
--- the pairs of the option that are added and not removed, as removed
+-- the pairs of the option that are added and not removed, marked as removed
 abbrev pub withdrawn : Pairs → ℕ → Pairs
 withdrawn c option = map.from_entries (each (λ e. (e.0, true)) (filter (is_live option) (map.entries c)))
 

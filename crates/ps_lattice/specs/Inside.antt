@@ -1,4 +1,4 @@
--- What the code stores, beside what contracts see.
+-- What the code stores, in definitions that no public contract cites.
 pub mod Shared
 pub mod Counts
 pub mod Held

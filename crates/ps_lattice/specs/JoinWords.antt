@@ -1,4 +1,4 @@
--- What the joins are, by each entry and by each pair.
+-- The joins as their publications define them, by each entry and by each pair.
 use Rattle.std.specs.Prelude.{◌≡◌, ℕ, max, ◌||◌}
 use Rattle.std.specs.FinMap as map
 use Rattle.ps_lattice.specs.Tally.{Counts, added, subtracted, joined_tallies}
@@ -12,7 +12,7 @@ pub record JoinsByMaximum (s t : Counts) (replica : ℕ) : Type 0 where
 abbrev pub TalliesJoinByMaximum : Type 0
 TalliesJoinByMaximum = (s t : Counts) (replica : ℕ) → JoinsByMaximum s t replica
 
--- the union of the added pairs and that of the removed ones
+-- the union of the added pairs, and the union of the removed ones
 pub record JoinsByUnion (c d : Pairs) (option replica sequence : ℕ) : Type 0 where
   pub added :
       is_added (joined_choices c d) option replica sequence

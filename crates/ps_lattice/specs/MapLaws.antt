@@ -8,7 +8,7 @@ use Rattle.std.specs.FinMap.{IsAntisymmetric, get-insert, get_tied, get-entries,
 use Rattle.std.proofs.Common.{refl, sym, ap, ◌∙◌}
 use Rattle.ps_lattice.specs.Maps.{both_of, joined_with_held, with_entries, joined_maps}
 
--- a way to join values
+-- f is a join: associative, commutative and idempotent
 pub record IsJoin {X : Type 0} (f : X → X → X) : Type 0 where
   pub associative : (x y z : X) → f (f x y) z ≡ f x (f y z)
   pub commutative : (x y : X) → f x y ≡ f y x

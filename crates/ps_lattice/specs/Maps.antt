@@ -1,9 +1,9 @@
--- Values that may be missing, and finite maps, joined: each key holds what both hold there, joined.
+-- Joins of values that may be missing, and of finite maps, which are joined key by key.
 use Rattle.std.specs.Prelude.{List, [], ◌∷◌, Option, Some, None}
 use Rattle.std.specs.declared.cmp.Ordering.{Ordering}
 use Rattle.std.specs.FinMap as map
 
--- two values that may be missing, joined: nothing is below each value
+-- the join of two values that may be missing; a missing one adds nothing
 abbrev pub both_of : {X : Type 0} → (X → X → X) → Option X → Option X → Option X
 both_of f None y = y
 both_of f (Some x) None = Some x
@@ -20,7 +20,7 @@ abbrev pub with_entries : {K X : Type 0} {R : K → K → Ordering} → (X → X
 with_entries f m [] = m
 with_entries f m (e ∷ es) = map.insert (with_entries f m es) e.0 (joined_with_held f (map.get m e.0) e.1)
 
--- two maps joined: each key holds what both hold there, joined
+-- the join of two maps: at each key the join of both values there
 unfoldable pub joined_maps : {K X : Type 0} {R : K → K → Ordering} → (X → X → X) → map.FinMap R X → map.FinMap R X
     → map.FinMap R X
 joined_maps f m n = with_entries f m (map.entries n)

@@ -1,6 +1,6 @@
 -- What in a delta is new to a state: the least value whose join with the state is the delta's join with it. Registers,
--- counters and sets are lattices of parts. There it is the join of those parts of the delta that aren't below the state
--- (Enes, Almeida, Baquero and Leitao, ICDE 2019).
+-- counters and sets are lattices of parts. For these, what is new is the join of the delta's parts that aren't below
+-- the state (Enes, Almeida, Baquero and Leitao, ICDE 2019).
 use Rattle.std.specs.Prelude.{◌≡◌}
 
 -- n is what in d is new to s, where f joins

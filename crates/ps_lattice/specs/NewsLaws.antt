@@ -1,4 +1,4 @@
--- What is new, by the laws of a join.
+-- Laws of what a delta has new for a state (`IsNewsOf`).
 use Rattle.std.specs.Prelude.{◌≡◌, Option, Some, None}
 use Rattle.std.specs.declared.cmp.Ordering.{Ordering}
 use Rattle.std.specs.Cmp.{IsTotalOrder}
@@ -14,7 +14,7 @@ module _ {X : Type 0} {f : X → X → X} where
   pub news_below : (s d n : X) → IsNewsOf f s d n → f d n ≡ d
   news_below s d n w = w.least d refl
 
-  -- there is at most one such value
+  -- at most one value is what is new
   pub news_once : IsJoin f → (s d n m : X) → IsNewsOf f s d n → IsNewsOf f s d m → n ≡ m
   news_once law s d n m v w = sym (w.least n v.same) ∙ sym (sym (v.least m w.same) ∙ law.commutative m n)
 
@@ -42,7 +42,7 @@ module _ {X : Type 0} (f : X → X → X) where
   both_of-None (Some x) = refl
 
 module _ {K X : Type 0} (R : K → K → Ordering) (f : X → X → X) (o : IsTotalOrder R) (same : IsAntisymmetric R) where
-  -- for maps it is enough key by key
+  -- a map is what is new if its value at each key is
   pub maps_news : (s d n : map.FinMap R X)
       → ((q : K) → IsNewsOf (both_of f) (map.get s q) (map.get d q) (map.get n q)) → IsNewsOf (joined_maps f) s d n
   maps_news s d n at = record {

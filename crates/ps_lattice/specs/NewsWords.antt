@@ -4,7 +4,7 @@ use Rattle.ps_lattice.specs.Tally.{Counts, added, subtracted, joined_tallies}
 use Rattle.ps_lattice.specs.Choice.{Pairs, is_added, is_removed, joined_choices}
 use Rattle.ps_lattice.specs.News.{IsNewsOf}
 
--- P and N of the delta, each where it is above P or N of the state, and else 0
+-- P and N of the delta, each replaced by 0 if it isn't above the state's
 pub record IsNewByEntry (s d n : Counts) (replica : ℕ) : Type 0 where
   pub added : added n replica ≡ (if nat_lt (added s replica) (added d replica) then added d replica else 0)
   pub subtracted :
@@ -14,14 +14,14 @@ pub record IsNewByEntry (s d n : Counts) (replica : ℕ) : Type 0 where
 abbrev pub TalliesNewByEntry : Type 0
 TalliesNewByEntry = (s d n : Counts) → IsNewsOf joined_tallies s d n → (replica : ℕ) → IsNewByEntry s d n replica
 
--- whether the pair is added in the delta alone, and whether it is removed in the delta alone
+-- whether only the delta has added the pair, and whether only the delta has removed it
 abbrev pub adds : Pairs → Pairs → ℕ → ℕ → ℕ → Bool
 adds s d option replica sequence = is_added d option replica sequence && not (is_added s option replica sequence)
 
 abbrev pub removes : Pairs → Pairs → ℕ → ℕ → ℕ → Bool
 removes s d option replica sequence = is_removed d option replica sequence && not (is_removed s option replica sequence)
 
--- the pairs that the delta adds, and those that it removes; a removed pair brings its added one
+-- added are the pairs that only the delta has added or removed; removed are those that only the delta has removed
 pub record IsNewByPair (s d n : Pairs) (option replica sequence : ℕ) : Type 0 where
   pub added : is_added n option replica sequence
       ≡ (adds s d option replica sequence || removes s d option replica sequence)

@@ -1,4 +1,4 @@
-//! An observed-remove set of options: a removal takes away only the pairs that it observed.
+//! An observed-remove set of options: a removal takes away only those additions of an option that it has observed.
 
 ghost use Rattle.std.specs.Prelude.{◌≡◌, ℕ, ◌+◌, ◌<◌, ◌≤◌, ◌↔◌, not, ◌&&◌, ◌||◌, ◌==◌, [], ◌∷◌, Contains, IsTrue};
 ghost use Rattle.std.specs.Prelude.{IfOk, IfErr, IsErrOf, IsBitSet, true, filter, length, map as each};
@@ -20,16 +20,16 @@ use std::alloc::{AllocError, Global};
 use std::cmp::Ordering;
 use std::marker::Model;
 
-/// An added pair: an option and a tag of its own, by the replica that chose it.
+/// One addition of an option: the option and a tag of its own, the replica that chose it with a sequence number.
 ///
 /// Pairs are ordered by option, then by replica, then by sequence.
 #[derive(Clone, Copy, Debug, PartialEq, Eq)]
 pub struct Pair {
-    /// 0 to one below `OPTIONS`.
+    /// The option, 0 to `OPTIONS` - 1.
     pub option: u8,
-    /// 1 to `REPLICAS`.
+    /// The replica that chose the option, 1 to `REPLICAS`.
     pub replica: u8,
-    /// 1 to `SEQUENCES`; a replica takes each at most once.
+    /// The sequence number, 1 to `SEQUENCES`; a replica uses each at most once.
     pub sequence: u16,
 }
 
@@ -76,7 +76,7 @@ impl Linear for Pair {
     ghost no_ties = { pairs_apart };
 }
 
-/// A joined mark is set where either mark is.
+/// The mark of a removed pair. A join of two marks is set if either mark is.
 impl Join for bool {
     ghost use Rattle.std.specs.Prelude.{◌||◌};
     ghost use Rattle.ps_lattice.specs.ChoiceLaws.{removals_is_join};
@@ -99,8 +99,8 @@ impl Join for bool {
     }
 }
 
-/// How many entries are copied at once: 3 KB of pairs. The C library has another way for 4 KB and more, which is slower
-/// where all lies in the cache.
+/// The most entries of one copy: 3 KB of pairs. From 4 KB on, the C library copies in another way, which is slower for
+/// bytes that lie in the cache.
 const COPIED: usize = 512;
 
 impl Merge for bool {
@@ -140,10 +140,12 @@ impl Newer for bool {
     }
 }
 
-/// A choice: the added pairs, and which of them are removed.
+/// A choice, a set of options: the pairs that were added, and which of them are removed.
+///
+/// An option is chosen while one of its pairs isn't removed.
 #[derive(Debug, Drop)]
 pub struct Choice {
-    // in the order of the pairs, each with whether it is removed: a removed pair stays, as a tombstone
+    // in the order of the pairs, each with whether it is removed; a removed pair stays, as a tombstone
     pairs: SharedList<(Pair, bool)>,
 }
 
@@ -164,7 +166,7 @@ impl Model for Choice {
 }
 
 impl Choice {
-    /// Creates a choice in which nothing was ever chosen. It takes no memory.
+    /// Creates a choice in which no option was ever chosen. It takes no memory.
     pub fn empty(alloc: Global) -> Self
         ensures { result ≡ map.empty }
     {
@@ -175,7 +177,7 @@ impl Choice {
         }
     }
 
-    /// Returns whether nothing was ever chosen. An option that was removed leaves its pairs, so they still count.
+    /// Returns whether no option was ever chosen. A removed option counts as well, since its pairs stay.
     pub fn is_empty(&self) -> bool
         ensures { IsTrue result ↔ (self.now ≡ map.empty) }
     {
@@ -207,23 +209,23 @@ impl Choice {
         Ok(Some(Choice { pairs }))
     }
 
-    /// Returns the options that are in, as bits: bit k for option k.
+    /// Returns the chosen options as bits: bit k for option k.
     ///
-    /// Cost: linear in the pairs; most of an option's are passed over 16 at a time.
+    /// Cost: linear in the pairs. After an option's first pair that isn't removed, the others are skipped 16 at a time.
     pub fn options(&self) -> u64
         ensures { (k : ℕ) → k < OPTIONS → (IsBitSet result k ↔ IsTrue (is_chosen self.now k)) }
     {
         options_of(self.parts())
     }
 
-    /// Returns the delta of choosing the option at the replica: one new pair.
+    /// Returns the delta by which the replica chooses the option: one new pair.
     ///
-    /// Its sequence is one above the last sequence of the replica in this set.
+    /// The pair's sequence number is one above the replica's last one in this set.
     ///
     /// # Errors
     ///
     /// - `OptionRange`: the option isn't below `OPTIONS`.
-    /// - `ChoiceFull`: the replica has used the last sequence.
+    /// - `ChoiceFull`: the replica has used the last sequence number, `SEQUENCES`.
     /// - `Memory`: out of memory.
     ///
     /// Cost: linear in the pairs.
@@ -254,12 +256,12 @@ impl Choice {
         Ok(Choice { pairs })
     }
 
-    /// Returns the delta of removing the option: its pairs in this set that aren't removed, now as removed.
+    /// Returns the delta that removes the option: the option's pairs that aren't removed yet, marked as removed.
     ///
     /// # Errors
     ///
     /// - `OptionRange`: the option isn't below `OPTIONS`.
-    /// - `NotChosen`: the option isn't in.
+    /// - `NotChosen`: the option isn't chosen.
     /// - `Memory`: out of memory.
     ///
     /// Cost: linear in the pairs.
@@ -286,14 +288,14 @@ impl Choice {
         Ok(Choice { pairs })
     }
 
-    /// Whether some pair of the option isn't removed.
+    /// Returns whether some pair of the option isn't removed.
     fn is_chosen(&self, option: u64) -> bool
         ensures { result ≡ is_chosen self.now option }
     {
         any_live(self.parts(), option)
     }
 
-    /// The greatest sequence of the replica, 0 without any.
+    /// Returns the replica's greatest sequence number; 0 if it has no pair.
     fn last_sequence(&self, replica: u8) -> u16
         ensures value { result ≡ last_sequence self.now replica }
         ensures in_range { result ≤ SEQUENCES }
@@ -302,9 +304,9 @@ impl Choice {
     }
 }
 
-/// Bit k for each option k with a pair that isn't removed.
+/// Returns bit k for each option k with a pair that isn't removed.
 ///
-/// The first such pair of an option decides; the rest of the option's pairs are passed over.
+/// The first such pair of an option decides, and the option's other pairs are skipped.
 fn options_of(pairs: &[(Pair, bool)]) -> u64
     requires ascending { IsTrue (map.is_sorted pair_cmp pairs.now) }
     requires in_range { IsTrue (list_all is_pair pairs.now) }
@@ -324,10 +326,10 @@ fn options_of(pairs: &[(Pair, bool)]) -> u64
     options
 }
 
-/// How many pairs are passed over at once where those at both ends tell of all.
+/// The size of a block of pairs that is skipped as a whole, if the pairs at its ends show that none in it matters.
 const PASSED: usize = 16;
 
-/// The place after the last pair that has the option of the pair at `from`.
+/// Returns the position after the last pair that has the option of the pair at `from`.
 #[tactic(auto, using(crate::proofs::Stretches::stretch_of_one))]
 fn end_of_option(pairs: &[(Pair, bool)], from: usize) -> usize
     requires ascending { IsTrue (map.is_sorted pair_cmp pairs.now) }
@@ -338,7 +340,7 @@ fn end_of_option(pairs: &[(Pair, bool)], from: usize) -> usize
     end_by(pairs, from, end, 1)
 }
 
-/// `end` moved on by `step` pairs as long as these have the option of the pair at `from`.
+/// Returns `end`, moved forward by `step` pairs at a time while these have the option of the pair at `from`.
 fn end_by(pairs: &[(Pair, bool)], from: usize, end: usize, step: usize) -> usize
     requires ascending { IsTrue (map.is_sorted pair_cmp pairs.now) }
     requires so_far { IsStretch pairs.now from end }
@@ -352,7 +354,7 @@ fn end_by(pairs: &[(Pair, bool)], from: usize, end: usize, step: usize) -> usize
     end
 }
 
-/// The greatest sequence of the replica, 0 without any.
+/// Returns the replica's greatest sequence number; 0 if it has no pair.
 fn last_of(pairs: &[(Pair, bool)], replica: u8) -> u16
     ensures { result ≡ last_of replica pairs.now }
 {
@@ -365,7 +367,7 @@ fn last_of(pairs: &[(Pair, bool)], replica: u8) -> u16
     last
 }
 
-/// The greatest sequence of the replica, 0 without any. Blocks that can't have its pairs are passed over.
+/// Returns the same as `last_of`. Skips blocks of pairs in which the replica can't have one.
 fn last_by_blocks(pairs: &[(Pair, bool)], replica: u8) -> u16
     requires { IsTrue (map.is_sorted pair_cmp pairs.now) }
     ensures { result ≡ last_of replica pairs.now }
@@ -381,7 +383,8 @@ fn last_by_blocks(pairs: &[(Pair, bool)], replica: u8) -> u16
     last.max(last_of(&pairs[i..], replica))
 }
 
-/// Whether no pair between these two can be the replica's: they have one option, and it isn't between their replicas.
+/// Returns whether the replica can't have a pair from `first` to `last`, since these have one option and the replica
+/// isn't between theirs.
 fn are_apart(first: Pair, last: Pair, replica: u8) -> bool
     ensures { IsTrue result
         ↔ ((first.option ≡ last.option) × ¬ ((first.replica ≤ replica) × (replica ≤ last.replica))) }
@@ -396,7 +399,7 @@ fn any_live(pairs: &[(Pair, bool)], option: u64) -> bool
     pairs.iter().any(|entry| is_live(option, entry))
 }
 
-/// The pairs of the option that aren't removed, as removed.
+/// Returns the option's pairs that aren't removed, marked as removed.
 fn withdrawn_of(
     alloc: Global,
     pairs: &[(Pair, bool)],
@@ -411,7 +414,7 @@ fn withdrawn_of(
         .collect(alloc)
 }
 
-/// Whether it is a pair of the option that isn't removed.
+/// Returns whether the entry is a pair of the option that isn't removed.
 fn is_live(option: u64, entry: &(Pair, bool)) -> bool
     ensures { result ≡ is_live option entry.now }
 {
@@ -468,7 +471,7 @@ impl Choice {
         })
     }
 
-    /// Returns what in the delta is new to this set: the pairs that aren't here, and those removed in the delta alone.
+    /// Returns what in the delta is new to this set: pairs that this set lacks, and pairs that only the delta removes.
     ///
     /// Refused only when out of memory.
     ///

@@ -1,4 +1,4 @@
-//! The counts of a counter. They take no memory if one replica alone has changed it and both are below 2^32.
+//! The stored counts of a counter. They take no memory if only one replica has changed it and both are below 2^32.
 
 ghost use Rattle.std.specs.Prelude.{◌≡◌, ◌↔◌, ◌≤◌, ◌*◌, [], ◌∷◌, sum_by, IsTrue, IfOk, IfErr};
 ghost use Rattle.std.specs.FinMap as map;
@@ -17,7 +17,7 @@ use std::alloc::Global;
 use std::slice;
 use std::sync::Arc;
 
-/// Replicas with their counts, in two words. The list isn't changed any more.
+/// An immutable list of replicas with their counts, in two words.
 #[derive(Debug, Drop)]
 pub(crate) enum CountList {
     Empty,
@@ -27,11 +27,11 @@ pub(crate) enum CountList {
         added: u32,
         subtracted: u32,
     },
-    // any others, with one owner or more
+    // any other entries, with one owner or more
     Shared(Arc<Vec<(u8, Count)>>),
 }
 
-/// The entries of a `CountList`: one made of its small counts, or those of a list in memory.
+/// The entries of a `CountList`: one made of its small counts, or a reference to those on the heap.
 #[derive(Debug, Drop)]
 pub(crate) enum Entries<'a> {
     One((u8, Count)),
@@ -86,7 +86,7 @@ impl CountList {
         Ok(CountList::Shared(Arc::new(alloc, entries)?))
     }
 
-    /// Returns the list again, with one owner more where it is in memory.
+    /// Returns the same list without a copy: a list on the heap gets one more owner.
     #[inline]
     pub(crate) fn share(&self) -> Result<CountList, Refusal>
         ensures ok { IfOk result (λ l. counts_in l ≡ counts_in self.now) }
@@ -107,7 +107,7 @@ impl CountList {
         }
     }
 
-    /// Returns the sums of what was added and of what was subtracted.
+    /// Returns the sum of what all replicas added, and the sum of what they subtracted.
     pub(crate) fn totals(&self) -> (u64, u64)
         requires { IsTrue (is_tally (counts_in self.now)) }
         ensures added { result.0 ≡ sum_by (λ e. e.1.added) (counts_in self.now) }
@@ -149,7 +149,7 @@ impl CountList {
     }
 }
 
-/// The sums of a list in memory.
+/// Returns both sums of a list on the heap.
 fn totals(counts: &[(u8, Count)]) -> (u64, u64)
     requires { IsTrue (is_tally counts.now) }
     ensures added { result.0 ≡ sum_by (λ e. e.1.added) counts.now }
@@ -168,7 +168,7 @@ fn totals(counts: &[(u8, Count)]) -> (u64, u64)
 
 /// Returns both lists merged in the order of their replicas, with counts of one replica joined.
 ///
-/// Small counts of one replica stay small. Other lists are shared where the one changes nothing in the other.
+/// Small counts of one replica stay small. If one list adds nothing new to the other, the result shares the other.
 #[inline(always)]
 pub(crate) fn joined(
     alloc: Global,
@@ -188,7 +188,7 @@ pub(crate) fn joined(
     }
 }
 
-/// Both lists joined, as by `joined`, without a merge where both have small counts of one replica.
+/// Joins two lists that aren't empty, as `joined` does. Small counts of one replica need no merge.
 #[inline(always)]
 fn joined_filled(alloc: Global, mine: &CountList, theirs: &CountList) -> Result<CountList, Refusal>
     requires mine { IsTrue (map.is_sorted nat_cmp (counts_in mine.now)) }
@@ -218,7 +218,7 @@ fn joined_filled(alloc: Global, mine: &CountList, theirs: &CountList) -> Result<
     }
 }
 
-/// Both lists merged, as by `joined`.
+/// Joins any two lists, as `joined` does. It merges them only if each has something new for the other.
 #[inline(never)]
 fn merged(alloc: Global, mine: &CountList, theirs: &CountList) -> Result<CountList, Refusal>
     requires mine { IsTrue (map.is_sorted nat_cmp (counts_in mine.now)) }
@@ -238,7 +238,7 @@ fn merged(alloc: Global, mine: &CountList, theirs: &CountList) -> Result<CountLi
     CountList::new(alloc, all)
 }
 
-/// Returns what in the second list is new to the first one. An empty list has nothing new.
+/// Returns what in `theirs` is new to `mine`. An empty `theirs` has nothing new.
 #[inline(always)]
 pub(crate) fn news(
     alloc: Global,
@@ -256,7 +256,7 @@ pub(crate) fn news(
     }
 }
 
-/// What in the second list is new to the first one, entry by entry.
+/// Returns what in `theirs` is new to `mine`, entry by entry.
 #[inline(never)]
 fn news_of_filled(alloc: Global, mine: &CountList, theirs: &CountList) -> Result<CountList, Refusal>
     requires mine { IsTrue (map.is_sorted nat_cmp (counts_in mine.now)) }
@@ -269,9 +269,9 @@ fn news_of_filled(alloc: Global, mine: &CountList, theirs: &CountList) -> Result
     CountList::new(alloc, news)
 }
 
-/// Returns whether joining the first list into the second one changes nothing.
+/// Returns whether joining `mine` into `theirs` changes nothing.
 ///
-/// The answer needs no walk where the first list is empty, and where both have small counts of one replica.
+/// No list is searched if `mine` is empty, or if both have small counts of one replica.
 #[inline(always)]
 pub(crate) fn is_below(mine: &CountList, theirs: &CountList) -> bool
     requires mine { IsTrue (map.is_sorted nat_cmp (counts_in mine.now)) }

@@ -1,4 +1,5 @@
-//! Lists of keys and values in the order of their keys: counters and choices are stored so, and deltas listed so.
+//! Lists of keys and values, sorted by key. Counters and choices are stored as such lists, and so are the cells of a
+//! delta.
 
 ghost use Rattle.std.specs.Prelude.{◌≡◌, ◌≤◌, ◌↔◌, ◌++◌, length, IsTrue, IfOk, IfErr, OnOk};
 ghost use Rattle.std.specs.FinMap as map;
@@ -12,9 +13,9 @@ use ps_grid::{Refusal, Twin};
 use std::alloc::Global;
 use std::cmp::Ordering;
 
-/// A value of lists that are merged: by key, as those of counters and sets, or position by position.
+/// A value in lists that are merged by key, as those of counters and sets are, or position by position.
 pub trait Merge: Join + Twin + Drop {
-    /// Returns the join of this value and another one, made at once.
+    /// Returns the join of this value and `other` as a new value, without making a twin (a copy) of either first.
     ///
     /// Refused only when out of memory.
     ///
@@ -23,11 +24,11 @@ pub trait Merge: Join + Twin + Drop {
         ensures ok { IfOk result (λ v. v ≡ Self.joined self.now other.now) }
         ensures memory { IfErr result (λ e. e ≡ Refusal.Memory) };
 
-    /// Appends the entries to the list, one by one; values that need no memory may go in at once.
+    /// Appends copies of the entries to the list, one by one. Types that own no memory may copy all of them at once.
     ///
-    /// Refused only when out of memory.
+    /// Refused only when out of memory; some entries may then have been appended.
     ///
-    /// Cost: linear in the entries, with their values.
+    /// Cost: linear in the entries and their values.
     fn append<K: Copy>(
         alloc: Global,
         list: &mut Vec<(K, Self)>,
@@ -43,14 +44,14 @@ pub trait Merge: Join + Twin + Drop {
     }
 }
 
-/// A value that can say what in it is new to another one.
+/// A value that knows which part of it is new to another value.
 pub(crate) trait Newer: Join + Copy {
     ghost use Rattle.std.specs.Prelude.{Option, Some};
     ghost use Rattle.ps_lattice.specs.News.{IsNewsOf};
 
     ghost newer: { Option Self → Self → Option Self };
 
-    /// Returns what is new in the value, if anything is.
+    /// Returns the part of `value` that is new to `there`, if any. `there` is `None` if a list lacks the key.
     fn new_of(there: Option<Self>, value: Self) -> Option<Self>
         ensures { result ≡ newer there value };
 
@@ -58,7 +59,7 @@ pub(crate) trait Newer: Join + Copy {
         → IsNewsOf (both_of Self.joined) there (Some value) (newer there value) };
 }
 
-/// Returns whether the keys ascend, each once.
+/// Returns whether the keys are strictly ascending.
 ///
 /// Cost: linear in the entries; it stops at the first that is out of order.
 pub fn is_ascending<K: Ord, X>(entries: &[(K, X)]) -> bool
@@ -72,7 +73,7 @@ pub fn is_ascending<K: Ord, X>(entries: &[(K, X)]) -> bool
     true
 }
 
-/// Returns the value at the key.
+/// Returns the value at the key, if the list has the key, by a binary search.
 pub(crate) fn value_at<K: Ord + Copy, X: Copy>(entries: &[(K, X)], key: K) -> Option<X>
     requires { IsTrue (map.is_sorted K.cmp entries.now) }
     ensures { result ≡ map.find K.cmp key entries.now }
@@ -83,14 +84,15 @@ pub(crate) fn value_at<K: Ord + Copy, X: Copy>(entries: &[(K, X)], key: K) -> Op
     }
 }
 
-/// A list that is this many times as long as the other one is searched; else both are walked.
+/// A list at least this many times as long as the other one is searched for the other's keys. Otherwise a merge steps
+/// through both lists.
 ///
-/// A search among thousands of entries takes as long as a walk over some fifteen.
+/// A search among thousands of entries takes as long as stepping over some fifteen.
 const FAR_LONGER: usize = 16;
 
 /// Returns both lists merged in the order of their keys, with values at one key joined.
 ///
-/// Cost: linear in both lists. Where one is far longer, what lies between two entries of the other is copied at once.
+/// Cost: linear in both lists. If one is far longer, its entries between two keys of the other are copied at once.
 pub(crate) fn merge_entries<K: Linear + Copy, X: Merge>(
     alloc: Global,
     mine: &[(K, X)],
@@ -113,7 +115,7 @@ pub(crate) fn merge_entries<K: Linear + Copy, X: Merge>(
     merge_by_steps(alloc, mine, theirs)
 }
 
-/// Both lists merged, as by `merge_entries`, where the second one is short.
+/// Merges both lists, as `merge_entries` does, and searches `many` for each key of the short list `few`.
 fn merge_few<K: Linear + Copy, X: Merge>(
     alloc: Global,
     many: &[(K, X)],
@@ -144,7 +146,9 @@ fn merge_few<K: Linear + Copy, X: Merge>(
     Ok(all)
 }
 
-/// The first place from `from` on whose key isn't below this one, and whether it is this one.
+/// Returns the first position from `from` on whose key isn't less than `key`, and whether the key there is `key`.
+///
+/// Returns the list's length if there is no such position.
 fn place_of<K: Ord + Copy, X>(entries: &[(K, X)], from: usize, key: K) -> (usize, bool)
     requires ascending { IsTrue (map.is_sorted K.cmp entries.now) }
     requires within { from ≤ length entries.now }
@@ -156,7 +160,7 @@ fn place_of<K: Ord + Copy, X>(entries: &[(K, X)], from: usize, key: K) -> (usize
     }
 }
 
-/// Both lists merged, as by `merge_entries`, one entry at a time.
+/// Merges both lists, as `merge_entries` does, one entry at a time.
 fn merge_by_steps<K: Linear + Copy, X: Merge>(
     alloc: Global,
     mine: &[(K, X)],
@@ -194,7 +198,7 @@ fn merge_by_steps<K: Linear + Copy, X: Merge>(
     Ok(all)
 }
 
-/// Returns what in the second list is new to the first one: each entry with the new part of its value, if any.
+/// Returns what in `theirs` is new to `mine`: the entries of `theirs` with the new parts of their values, if any.
 pub(crate) fn news_entries<K: Linear + Copy, X: Newer>(
     alloc: Global,
     mine: &[(K, X)],
@@ -213,7 +217,7 @@ pub(crate) fn news_entries<K: Linear + Copy, X: Newer>(
     Ok(news)
 }
 
-/// An equal entry.
+/// Returns an equal entry.
 fn twin_of<K: Copy, X: Twin>(alloc: Global, entry: &(K, X)) -> Result<(K, X), Refusal>
     ensures ok { IfOk result (λ e. e ≡ entry.now) }
     ensures memory { IfErr result (λ e. e ≡ Refusal.Memory) }
@@ -221,7 +225,7 @@ fn twin_of<K: Copy, X: Twin>(alloc: Global, entry: &(K, X)) -> Result<(K, X), Re
     Ok((entry.0, entry.1.twin(alloc)?))
 }
 
-/// Returns whether joining the first list into the second one changes nothing.
+/// Returns whether joining `mine` into `theirs` changes nothing.
 pub(crate) fn is_below<K: Linear + Copy, X: Join + Copy>(mine: &[(K, X)], theirs: &[(K, X)]) -> bool
     requires mine { IsTrue (map.is_sorted K.cmp mine.now) }
     requires theirs { IsTrue (map.is_sorted K.cmp theirs.now) }
@@ -237,7 +241,7 @@ pub(crate) fn is_below<K: Linear + Copy, X: Join + Copy>(mine: &[(K, X)], theirs
     true
 }
 
-/// Whether joining `value` into `there` changes nothing.
+/// Returns whether joining `value` into `there` changes nothing. `there` is `None` if a list lacks the key.
 fn covers_at<X: Join + Copy>(there: Option<X>, value: X) -> bool
     ensures { IsTrue result ↔ (both_of X.joined there (Some value) ≡ there) }
 {

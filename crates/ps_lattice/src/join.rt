@@ -9,13 +9,13 @@ use std::alloc::Global;
 
 /// A join-semilattice: any two states have a least state above both, their join.
 ///
-/// States may be joined in any order, in any groups and again: the result is the same.
+/// States may be joined in any order, in any groups and repeatedly: the result is the same.
 pub trait Join: Sized {
     ghost joined: { Self → Self → Self };
 
     /// Joins the other state into this one.
     ///
-    /// Refused only when out of memory, and then nothing is changed.
+    /// Refused only when out of memory, and then this state stays as it was.
     ///
     /// Cost: linear in the two states.
     fn join(&mut self, alloc: Global, other: &Self) -> Result<(), Refusal>
@@ -23,9 +23,9 @@ pub trait Join: Sized {
         ensures err { OnErr result (self.new ≡ self.old) }
         ensures memory { IfErr result (λ e. e ≡ Refusal.Memory) };
 
-    /// Returns whether this state adds nothing new to the other one: joining it there changes nothing.
+    /// Returns whether this state adds nothing new to `other`: joining it into `other` would change nothing.
     ///
-    /// Cost: one search in the other state for each part of this one; no memory.
+    /// Cost: at most one search in `other` for each part of this state; no memory.
     fn below(&self, other: &Self) -> bool
         ensures { IsTrue result ↔ (joined other.now self.now ≡ other.now) };
 

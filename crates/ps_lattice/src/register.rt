@@ -12,18 +12,18 @@ use std::alloc::Global;
 use std::cmp::Ordering;
 use std::marker::Model;
 
-/// A content with its stamp, the time and the replica of the assignment: a Lamport timestamp.
+/// A content that was assigned, with its stamp: the time and the replica of the assignment, a Lamport timestamp.
 #[derive(Debug, Drop)]
 pub struct Assignment<V> {
-    /// 1 to `LAST_TIME`.
+    /// The Lamport time, 1 to `LAST_TIME`.
     pub time: u64,
-    /// 1 to `REPLICAS`.
+    /// The replica that assigned the content, 1 to `REPLICAS`.
     pub replica: u8,
-    /// The content of the register.
+    /// The content that was assigned.
     pub content: V,
 }
 
-/// A register: nothing yet, or the greatest assignment that it has seen.
+/// A register: nothing yet, or the greatest assignment that it has seen, by time, then by replica, then by content.
 #[derive(Debug, Drop)]
 pub struct Register<V> {
     held: Held<V>,
@@ -71,7 +71,7 @@ impl<V> Register<V> {
         }
     }
 
-    /// Returns the assignment that the register holds, with a reference to its content.
+    /// Returns the assignment that the register holds, if any, with a reference to its content.
     #[inline(always)]
     pub fn parts(&self) -> Option<Assignment<&V>>
         ensures value { option_map looked_at result ≡ self.now }
@@ -91,7 +91,7 @@ impl<V> Register<V> {
         }
     }
 
-    /// Returns the content that the register holds.
+    /// Returns the content that the register holds, if any.
     #[inline(always)]
     pub fn content(&self) -> Option<&V>
         ensures { option_copied result ≡ option_map (λ a. a.content) self.now }
@@ -102,7 +102,7 @@ impl<V> Register<V> {
         }
     }
 
-    /// Returns the time of the assignment, and 0 where nothing was assigned.
+    /// Returns the Lamport time of the assignment, and 0 if nothing was assigned.
     #[inline(always)]
     pub fn time(&self) -> u64
         ensures value { result ≡ time_of self.now }
@@ -114,7 +114,7 @@ impl<V> Register<V> {
         }
     }
 
-    /// Returns the register that holds this assignment; `None` where its stamp is out of range.
+    /// Returns the register that holds this assignment; `None` if the time or the replica is out of range.
     pub fn from_parts(assignment: Assignment<V>) -> Option<Register<V>>
     where
         V: Drop,
@@ -136,9 +136,9 @@ impl<V> Register<V> {
 }
 
 impl<V: Linear + Drop> Register<V> {
-    /// Returns the delta of assigning the content at the replica, at a time one above the time of this register.
+    /// Returns the delta by which the replica assigns the content, at a time one above the time of this register.
     ///
-    /// Refused as `ClockFull` where the register has the last time already.
+    /// Refused as `ClockFull` if the time of this register is `LAST_TIME` already.
     pub fn assign(&self, replica: u8, content: V) -> Result<Register<V>, Refusal>
         requires { (1 ≤ replica) × (replica ≤ REPLICAS) }
         ensures ok { IfOk result (λ d. d
@@ -177,7 +177,7 @@ impl<V: Linear + Twin + Drop> Register<V> {
         newer.twin(alloc)
     }
 
-    /// Returns what in the delta is new to this register: its assignment, where that is greater than the one here.
+    /// Returns what in the delta is new here: the delta if its assignment is the greater one, else an empty register.
     ///
     /// Refused only when out of memory.
     ///
@@ -243,7 +243,7 @@ impl<V: Linear + Twin + Drop> Join for Register<V> {
     }
 }
 
-/// The order of two assignments: by time, then by replica, then by content.
+/// Compares two assignments: by time, then by replica, then by content.
 #[inline]
 fn compare<V: Ord>(mine: &Assignment<&V>, theirs: &Assignment<&V>) -> Ordering
     ensures { result ≡ assignment_cmp V.cmp (looked_at mine.now) (looked_at theirs.now) }

@@ -1,4 +1,4 @@
-//! A list that any number of owners share.
+//! An immutable list that any number of owners share.
 
 ghost use Rattle.std.specs.Prelude.{◌≡◌, ◌↔◌, [], ◌∷◌, IsTrue, IfOk, IfErr};
 ghost use Rattle.std.specs.Arc.{arc_value};
@@ -17,9 +17,9 @@ use std::alloc::Global;
 use std::slice;
 use std::sync::Arc;
 
-/// A list in two words that any number of owners share. It isn't changed any more.
+/// An immutable list that any number of owners share, in two words.
 ///
-/// An empty list takes no memory, and a lone item lies beside the count of the owners. Most lists have no more items.
+/// An empty list takes no memory. A lone item lies in the `Arc` itself, without a `Vec`. Most lists have no more items.
 #[derive(Debug, Drop)]
 pub(crate) enum SharedList<X> {
     Empty,
@@ -54,7 +54,7 @@ impl<X: Drop> SharedList<X> {
         Ok(SharedList::One(Arc::new(alloc, item)?))
     }
 
-    /// Returns the list again, with one owner more.
+    /// Returns the same list with one more owner, without a copy.
     #[inline]
     pub(crate) fn share(&self) -> Result<SharedList<X>, Refusal>
         ensures ok { IfOk result (λ s. items_of s ≡ items_of self.now) }
@@ -82,7 +82,7 @@ impl<X: Drop> SharedList<X> {
 
 /// Returns both lists merged in the order of their keys, with values at one key joined.
 ///
-/// Where one list changes nothing in the other, that other one gets an owner more, and nothing is copied.
+/// If one list adds nothing new to the other, the result shares that other list, and nothing is copied.
 // Most lists are empty: that case is inlined, and the join of two filled lists isn't.
 #[inline(always)]
 pub(crate) fn joined<K: Linear + Copy, X: Merge + Copy>(
@@ -104,7 +104,7 @@ pub(crate) fn joined<K: Linear + Copy, X: Merge + Copy>(
     }
 }
 
-/// Both lists joined, as by `joined`, without a merge where each has one entry and both have one key.
+/// Joins two lists that aren't empty, as `joined` does. Two lists of one entry each, with the same key, need no merge.
 #[inline(never)]
 fn joined_filled<K: Linear + Copy, X: Merge + Copy>(
     alloc: Global,
@@ -126,7 +126,7 @@ fn joined_filled<K: Linear + Copy, X: Merge + Copy>(
     }
 }
 
-/// The list of two entries of one key joined. It is one of the two with an owner more, if that is the join already.
+/// Joins two entries of the same key into a list of one entry. If one entry is the join already, the list shares it.
 #[inline]
 fn joined_at_key<K: Linear + Copy, X: Merge + Copy>(
     alloc: Global,
@@ -148,7 +148,7 @@ fn joined_at_key<K: Linear + Copy, X: Merge + Copy>(
     SharedList::of_one(alloc, (mine.0, both))
 }
 
-/// Both lists merged, as by `joined`.
+/// Joins any two lists, as `joined` does. It merges them only if each has something new for the other.
 #[inline(never)]
 fn merged<K: Linear + Copy, X: Merge + Copy>(
     alloc: Global,
@@ -172,7 +172,7 @@ fn merged<K: Linear + Copy, X: Merge + Copy>(
     SharedList::new(alloc, all)
 }
 
-/// Returns what in the second list is new to the first one. An empty list has nothing new.
+/// Returns what in `theirs` is new to `mine`. An empty `theirs` has nothing new.
 #[inline(always)]
 pub(crate) fn news<K: Linear + Copy + Drop, X: Newer + Drop>(
     alloc: Global,
@@ -191,7 +191,7 @@ pub(crate) fn news<K: Linear + Copy + Drop, X: Newer + Drop>(
     }
 }
 
-/// What in the second list is new to the first one, entry by entry.
+/// Returns what in `theirs` is new to `mine`, entry by entry.
 #[inline(never)]
 fn news_of_filled<K: Linear + Copy + Drop, X: Newer + Drop>(
     alloc: Global,
@@ -208,7 +208,7 @@ fn news_of_filled<K: Linear + Copy + Drop, X: Newer + Drop>(
     SharedList::new(alloc, news)
 }
 
-/// Returns whether joining the first list into the second one changes nothing. An empty first list needs no walk.
+/// Returns whether joining `mine` into `theirs` changes nothing. An empty `mine` needs no search.
 #[inline(always)]
 pub(crate) fn is_below<K: Linear + Copy, X: Join + Copy>(
     mine: &SharedList<(K, X)>,

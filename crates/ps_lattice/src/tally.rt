@@ -18,7 +18,7 @@ use ps_grid::{REPLICAS, Refusal, Twin};
 use std::alloc::Global;
 use std::marker::Model;
 
-/// The totals that one replica added to a counter and subtracted from it, each at most `COUNT_LIMIT`.
+/// The total that one replica added to a counter, and the total that it subtracted; each is at most `COUNT_LIMIT`.
 #[derive(Clone, Copy, Debug, PartialEq, Eq)]
 pub struct Count {
     /// P of the replica: the total that it added.
@@ -33,7 +33,7 @@ impl Twin for Count {
     }
 }
 
-/// Each joined count is the greater of the two.
+/// A join has the greater of both totals added, and the greater of both totals subtracted.
 impl Join for Count {
     ghost use Rattle.ps_lattice.specs.Tally.{greater_counts};
     ghost use Rattle.ps_lattice.specs.TallyLaws.{counts_is_join};
@@ -97,14 +97,14 @@ impl Newer for Count {
     }
 }
 
-/// The total where it is above `there`, else 0.
+/// Returns `total` if it is above `there`, else 0.
 fn newer_total(there: u64, total: u64) -> u64
     ensures { result ≡ newer_total there total }
 {
     if there < total { total } else { 0 }
 }
 
-/// A counter: for each replica what it added and what it subtracted.
+/// A counter: for each replica the total that it added, and the total that it subtracted.
 #[derive(Debug, Drop)]
 pub struct Tally {
     // by replica; only replicas that changed the counter
@@ -127,7 +127,7 @@ impl Model for Tally {
     ghost invariant = { λ t. IsTrue (is_tally (counts_in t.counts)) };
 }
 
-/// The replicas that changed a counter, each with its counts, as `Tally::parts` shows them.
+/// The replicas that changed a counter, each with its counts, as [`Tally::parts`] returns them.
 #[derive(Debug, Drop)]
 pub struct TallyParts<'a> {
     entries: Entries<'a>,
@@ -209,7 +209,7 @@ impl Tally {
         Ok(Some(Tally { counts }))
     }
 
-    /// Returns the value: the sum of what was added less the sum of what was subtracted.
+    /// Returns the value of the counter: the sum of what was added less the sum of what was subtracted.
     ///
     /// Cost: linear in the replicas that changed the counter.
     pub fn value(&self) -> i64
@@ -219,7 +219,9 @@ impl Tally {
         added as i64 - subtracted as i64
     }
 
-    /// Returns the delta of adding the amount at the replica: the total that it added, raised by the amount.
+    /// Returns the delta by which the replica adds the amount: the raised total of what the replica added.
+    ///
+    /// The counter changes only once it is joined with the delta.
     ///
     /// # Errors
     ///
@@ -248,7 +250,9 @@ impl Tally {
         Tally::of_one(alloc, replica, count)
     }
 
-    /// Returns the delta of subtracting the amount at the replica: the total that it subtracted, raised by the amount.
+    /// Returns the delta by which the replica subtracts the amount: the raised total of what the replica subtracted.
+    ///
+    /// The counter changes only once it is joined with the delta.
     ///
     /// # Errors
     ///
@@ -277,7 +281,7 @@ impl Tally {
         Tally::of_one(alloc, replica, count)
     }
 
-    /// The counts of the replica, 0 where it changed nothing.
+    /// Returns the counts of the replica, both 0 if it changed nothing.
     fn count_of(&self, replica: u8) -> Count
         ensures added { result.added ≡ added self.now replica }
         ensures subtracted { result.subtracted ≡ subtracted self.now replica }
@@ -291,7 +295,7 @@ impl Tally {
         entries::value_at(self.parts().as_slice(), replica).unwrap_or(none)
     }
 
-    /// The counter with the counts of one replica alone.
+    /// Creates the counter that only this replica has changed.
     #[inline(always)]
     fn of_one(alloc: Global, replica: u8, count: Count) -> Result<Tally, Refusal>
         requires { IsTrue (is_count (replica, count)) }
@@ -303,7 +307,7 @@ impl Tally {
     }
 }
 
-/// The total of a replica after one more amount; refused as in `add` and `sub`.
+/// Returns the total of a replica after one more amount. Refused as in `add` and `sub`.
 fn count_after(before: u64, amount: u64) -> Result<u64, Refusal>
     requires { before ≤ COUNT_LIMIT }
     ensures ok { IfOk result (λ n. (n ≡ before + amount) × (n ≤ COUNT_LIMIT) × (1 ≤ amount)) }
@@ -322,7 +326,7 @@ fn count_after(before: u64, amount: u64) -> Result<u64, Refusal>
     Ok(after)
 }
 
-/// Whether the replicas ascend, and they and their counts are in range.
+/// Returns whether the replicas ascend, and they and their counts are in range.
 fn is_tally(parts: &[(u8, Count)]) -> bool
     ensures { result ≡ is_tally parts.now }
 {
@@ -369,7 +373,7 @@ impl Tally {
         })
     }
 
-    /// Returns what in the delta is new to this counter: each total of a replica that is more than here.
+    /// Returns what in the delta is new to this counter: each replica's totals that are greater than here, others as 0.
     ///
     /// Refused only when out of memory.
     ///

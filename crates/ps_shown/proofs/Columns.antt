@@ -180,7 +180,7 @@ none_is : (x : Option Fault) → is_some x ≡ false → x ≡ None
 none_is None h = refl
 none_is (Some fault) h = absurd (let e : true ≡ false = h in cc)
 
--- what is known of the items column after column is known of them row by row, but for which fault is the first
+-- a summary of the items column after column fits them row by row, except for which fault is the first
 turned_known : (v : Assignment) (a : Area) (s : Summary) (items : List Number) → LiesInGrid a
     → numbers_in items ≡ numbers_in (items_by_columns v a a.width)
     → Summarizes items s → first_fault items ≡ first_fault (range_items v a)

@@ -6,11 +6,11 @@ use Rattle.ps_shown.specs.declared.kept.Kept.{Kept}
 use Rattle.ps_shown.specs.declared.kept.Kept.TheVariants.{Empty}
 use Rattle.ps_shown.specs.Kept.{value_of}
 
--- the fault that is kept at a place, if there is one
+-- the fault at a place, if there is one
 abbrev pub fault_kept : List Kept → ℕ → Option Fault
 fault_kept kept p = first_fault (cell_items (value_of (slice_index_or kept p Empty)))
 
--- r is the first place from p on, and before q, where a fault is kept, or q where there is none
+-- r is the first place from p up to q, without q, that has a fault, or q if none has
 pub record IsFirstFault (kept : List Kept) (p q r : ℕ) : Type 0 where
   pub order : p ≤ r
   pub within : r ≤ q

@@ -1,4 +1,6 @@
-//! Summaries of blocks of the table, which are remembered and follow the cells that are put.
+//! Summaries of blocks of the table (57 places of a column), which are stored and updated as cells change.
+//!
+//! A block is *remembered* if its summary is stored.
 ghost use Rattle.std.specs.Prelude.{◌≡◌, ◌+◌, ◌*◌, ◌^◌, ◌/◌, ◌<◌, ◌≤◌, ℕ, List, ◌++◌, None, Some};
 ghost use Rattle.std.specs.Prelude.{IfSome, IsTrue, length, slice_index_or, slice_set, vec_capacity};
 ghost use Rattle.ps_value.specs.Operand.{operand_of};
@@ -20,10 +22,10 @@ use ps_value::Operand;
 /// don't share a few sets of the processor's cache.
 pub(crate) const BLOCK: usize = 57;
 
-/// The number of rows from which it pays to remember the sums of a range: it then has a whole block.
+/// The number of rows from which a range is worth a call of `Shown::remember`: it then contains a whole block.
 pub const LONG: usize = 2 * BLOCK;
 
-/// The summary of the items from one place up to another, by a walk. The table may end before.
+/// The summary of the items at the places `from..to`, cell by cell. Places beyond the end of `kept` are empty.
 #[inline]
 fn walk(kept: &[Kept], from: usize, to: usize) -> Summary
     requires { from ≤ to }
@@ -36,7 +38,7 @@ fn walk(kept: &[Kept], from: usize, to: usize) -> Summary
     summary_of_run(&kept[from.min(reached)..to.min(reached)])
 }
 
-/// The remembered summary of a block.
+/// The summary of a block, if it is remembered.
 #[inline]
 fn known(sums: &[Option<Summary>], block: usize) -> Option<&Summary>
     ensures { IfSome result (λ s. slice_index_or sums.now block None ≡ Some s.now) }
@@ -48,7 +50,7 @@ fn known(sums: &[Option<Summary>], block: usize) -> Option<&Summary>
     }
 }
 
-/// Whether it is remembered that a block has no fault.
+/// Returns whether a block is remembered and its summary has no fault.
 pub(crate) fn is_free_of_faults(kept: &[Kept], sums: &[Option<Summary>], block: usize) -> bool
     requires { AreRemembered kept.now sums.now }
     ensures { IsTrue result → (p : ℕ)
@@ -60,7 +62,7 @@ pub(crate) fn is_free_of_faults(kept: &[Kept], sums: &[Option<Summary>], block: 
     false
 }
 
-/// Adds the items of one more block: by its remembered summary, or by a walk.
+/// Appends the items of one more block: from its summary if it is remembered, else cell by cell.
 fn take_block(summary: &mut Summary, kept: &[Kept], sums: &[Option<Summary>], block: usize)
     requires remembered { AreRemembered kept.now sums.now }
     requires block { block * BLOCK + BLOCK ≤ PLACES }
@@ -75,7 +77,7 @@ fn take_block(summary: &mut Summary, kept: &[Kept], sums: &[Option<Summary>], bl
     }
 }
 
-/// As `take_block`, of a summary by value.
+/// As `take_block`, for a summary that is passed and returned by value.
 // Not inlined, so that the caller's summary stays in registers meanwhile.
 #[inline(never)]
 fn with_block(summary: Summary, kept: &[Kept], sums: &[Option<Summary>], block: usize) -> Summary
@@ -91,7 +93,7 @@ fn with_block(summary: Summary, kept: &[Kept], sums: &[Option<Summary>], block: 
     summary
 }
 
-/// The remembered summary of a block without a fault.
+/// The summary of a block, if it is remembered and has no fault.
 #[inline(always)]
 fn known_numbers(sums: &[Option<Summary>], block: usize) -> Option<&Summary>
     requires { block < length sums.now }
@@ -103,8 +105,8 @@ fn known_numbers(sums: &[Option<Summary>], block: usize) -> Option<&Summary>
     }
 }
 
-/// Adds the items of the blocks from `first` up to `end`, until one isn't remembered or has a fault. Returns the first
-/// block that is left.
+/// Appends the items of the blocks `first..end`, up to the first that isn't remembered or has a fault. Returns that
+/// block, or `end`. If `summary` itself has a fault, it appends nothing and returns `first`.
 #[inline(always)]
 fn take_known(
     summary: &mut Summary,
@@ -138,8 +140,8 @@ fn take_known(
     next
 }
 
-/// The summary of the items from one place up to another: block by block. What lies before the first whole block and
-/// after the last one is walked.
+/// Returns the summary of the items at the places `from..to`: whole blocks by `take_block`, and the cells before and
+/// after them one by one.
 // Not inlined, so that the summary stays in registers while blocks are joined.
 #[inline(never)]
 pub(crate) fn summary_between(
@@ -171,7 +173,7 @@ pub(crate) fn summary_between(
     summary
 }
 
-/// Remembers the summary of a block, unless it is remembered already.
+/// Stores the summary of a block, unless the block is remembered already.
 fn remember_block(kept: &[Kept], sums: &mut Vec<Option<Summary>>, block: usize)
     requires remembered { AreRemembered kept.now sums.old.items }
     requires block { block * BLOCK + BLOCK ≤ PLACES }
@@ -185,7 +187,7 @@ fn remember_block(kept: &[Kept], sums: &mut Vec<Option<Summary>>, block: usize)
     }
 }
 
-/// Extends the list with blocks that aren't remembered, up to this one.
+/// Extends the list up to this block, with `None` for blocks that aren't remembered.
 fn reach(sums: &mut Vec<Option<Summary>>, block: usize)
     requires room { block < vec_capacity sums.old }
     ensures reached { block < length sums.new.items }
@@ -197,7 +199,7 @@ fn reach(sums: &mut Vec<Option<Summary>>, block: usize)
     }
 }
 
-/// Remembers the summaries of the blocks from `from` up to `end`.
+/// Stores the summaries of the blocks `from..end` that aren't remembered yet.
 pub(crate) fn remember_blocks(
     kept: &[Kept],
     sums: &mut Vec<Option<Summary>>,
@@ -215,7 +217,7 @@ pub(crate) fn remember_blocks(
     }
 }
 
-/// Updates the summary of the place's block for what is put there, or drops it.
+/// Updates the summary of the place's block before `put` is stored at that place, or drops the summary.
 #[inline(always)]
 pub(crate) fn follow(
     kept: &[Kept],
@@ -229,7 +231,7 @@ pub(crate) fn follow(
     ensures remembered { AreRemembered (slice_set kept.now place put.now) sums.new.items }
     ensures capacity { vec_capacity sums.old ≤ vec_capacity sums.new }
 {
-    // mostly no block was ever remembered
+    // in most tables no block was ever remembered
     if !sums.is_empty() {
         exchange_or_forget(kept, sums, runs, place, put.operand());
     }
@@ -237,8 +239,8 @@ pub(crate) fn follow(
 
 /// As `follow`, for a table that remembers some block: exchanges one operand of the block's summary, or drops the
 /// summary if that can't be done.
-// Not inlined, so that a put into a table without summaries stays short. What is put comes as its operand, so that it
-// need not lie in memory.
+// Not inlined, so that a put into a table without summaries stays short. The parameter is the operand of the new value,
+// so that the value itself need not lie in memory.
 #[inline(never)]
 fn exchange_or_forget(
     kept: &[Kept],

@@ -1,4 +1,4 @@
-//! The first fault of a run of the table, found by the remembered summaries of its blocks.
+//! Finds the first fault of a run of places in the table. It skips blocks whose stored summary has no fault.
 ghost use Rattle.std.specs.Prelude.{◌≡◌, ◌↔◌, ◌+◌, ◌*◌, ◌≤◌, ℕ, List, length, slice_index_or, None};
 ghost use Rattle.std.specs.Prelude.{IsTrue};
 ghost use Rattle.ps_shown.specs.Blocks.{AreRemembered};
@@ -11,7 +11,7 @@ use crate::kept::Kept;
 use ps_eval::Summary;
 use ps_value::Fault;
 
-/// The fault that is stored at a place.
+/// Returns the fault at a place, if one is stored there.
 #[inline]
 pub(crate) fn fault_at(kept: &[Kept], place: usize) -> Option<Fault>
     ensures { result ≡ fault_kept kept.now place }
@@ -23,7 +23,7 @@ pub(crate) fn fault_at(kept: &[Kept], place: usize) -> Option<Fault>
     }
 }
 
-/// The first place of a run that holds a fault, by a walk, or the run's end.
+/// The first place in `from..to` with a fault, tested place by place, or `to` if there is none.
 fn walk_to_fault(kept: &[Kept], from: usize, to: usize) -> usize
     requires { from ≤ to }
     ensures { IsFirstFault kept.now from to result }
@@ -38,7 +38,7 @@ fn walk_to_fault(kept: &[Kept], from: usize, to: usize) -> usize
     to
 }
 
-/// As `walk_to_fault`, within one block: walks only if the block may have a fault.
+/// As `walk_to_fault`, within one block. Returns `to` at once if the block's summary says that it has no fault.
 fn fault_in_block(
     kept: &[Kept],
     sums: &[Option<Summary>],
@@ -59,9 +59,10 @@ fn fault_in_block(
     }
 }
 
-/// The first place of a run that holds a fault, or the run's end.
+/// Returns the first place in `from..to` with a fault, or `to` if there is none.
 ///
-/// Cost: a step for each remembered block up to there, and the cells of the other blocks and of the fault's.
+/// Cost: a step for each block before the returned place that has a summary without a fault, and one for each cell of
+/// the other blocks before it.
 pub(crate) fn place_of_fault(
     kept: &[Kept],
     sums: &[Option<Summary>],

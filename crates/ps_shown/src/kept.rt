@@ -37,7 +37,7 @@ impl Kept {
         }
     }
 
-    /// Returns what evaluation reads of the value. The bytes of a text are not looked at.
+    /// Returns the part of the value that evaluation needs. A text gives no bytes; options give their number.
     #[inline]
     pub fn operand(&self) -> Operand
         ensures { result ≡ operand_of (value_of self.now) }
@@ -51,7 +51,7 @@ impl Kept {
         }
     }
 
-    /// The fault that is shown.
+    /// Returns the fault, if the cell shows one.
     #[inline]
     pub(crate) fn fault(&self) -> Option<Fault>
         ensures { result ≡ first_fault (cell_items (value_of self.now)) }
@@ -62,9 +62,9 @@ impl Kept {
         }
     }
 
-    /// Returns whether both cells show the same value. No value is copied.
+    /// Returns whether both cells show the same value.
     ///
-    /// Cost: of two texts, their bytes; else constant.
+    /// Cost: linear in the bytes of two texts; else constant.
     #[inline(always)]
     pub fn is_same(&self, other: &Kept) -> bool
         ensures { IsTrue result ↔ (value_of self.now ≡ value_of other.now) }

@@ -11,21 +11,20 @@
 //!
 //! Say `A1` shows the text `x` and `B1` the number 7. `Shown::at` of `A1` is that text, and `Shown::operand` of `A1`
 //! says only that there is a text. `Shown::operand` of `B1` is the number 7. `Shown::put` of `Kept::Num(1)` at `A1`
-//! returns the stored text. The same call with that text makes the table what it was.
+//! returns the stored text. Putting that text at `A1` restores the table.
 //!
-//! For SUM, MIN, MAX and COUNT the table remembers summaries of blocks: 57 rows of a column, and 55 in its last block.
-//! `remember` makes the summaries for a range, and `summary` reads them. `put` exchanges one cell's part in its block's
-//! summary. It drops the summary if the block had a fault, or if the old number was the block's least or greatest. No
-//! contract above mentions this: that each summary is the one of the cells as they are now is the table's own
-//! invariant.
+//! For SUM, MIN, MAX and COUNT the table stores summaries of blocks. A block is 57 rows of a column; a column's last
+//! block has 55. `remember` makes the summaries for a range, and `summary` reads them. `put` updates the summary of its
+//! cell's block. It drops the summary if the block had a fault, or if the old number was the block's least or greatest.
+//! The table's own invariant says that each stored summary fits the cells. No contract of a caller mentions summaries.
 //!
-//! Cost: a table takes 2 MB once, and writes only the part before the last cell that was put. Its twin does the same,
-//! and remembers no summaries yet. No other call takes memory. Each call is constant except for that writing and two
-//! others:
+//! Cost: a table reserves 2 MB once. It writes them, column after column, only up to the last cell of any `put`. Its
+//! twin does the same, and starts without summaries. No other call takes memory. Each call takes constant time, except
+//! for that writing and for two functions:
 //!
-//! - `summary` takes one step for each remembered block of its range and for each other cell, and about as many again
-//!   if there is a fault.
-//! - `remember` walks the cells of the blocks that aren't remembered yet.
+//! - `summary` takes one step for each block of its range that has a summary, and one for each cell outside such
+//!   blocks. If there is a fault, it takes about as many again.
+//! - `remember` reads the cells of those blocks of its range that have no summary.
 #![tactic(auto)]
 
 mod blocks;

@@ -1,4 +1,4 @@
-//! What sums need to know of a run of the table.
+//! The summary of a run of stored cells, taken cell by cell.
 ghost use Rattle.std.specs.Prelude.{◌+◌, ◌^◌, ◌<◌, ◌≤◌, length};
 ghost use Rattle.ps_eval.specs.Summarized.{Summarizes};
 ghost use Rattle.ps_shown.specs.Sums.{HasTaken, items_kept};
@@ -10,7 +10,7 @@ use ps_eval::Summary;
 /// How many cells are tested together for being numbers.
 const TOGETHER: usize = 4;
 
-/// The summary of a run of stored cells.
+/// Returns the summary of a run of stored cells.
 // Not inlined, so that the summary stays in registers while the cells are walked.
 #[inline(never)]
 pub(crate) fn summary_of_run(run: &[Kept]) -> Summary
@@ -26,7 +26,8 @@ pub(crate) fn summary_of_run(run: &[Kept]) -> Summary
     summary
 }
 
-/// Takes the cells from `from` on, four at a time, as long as all four are numbers. Returns the first that is left.
+/// Adds the cells from `from` on to the summary, four at a time, as long as all four are numbers. Returns the index of
+/// the first cell that it didn't add.
 // (a cell known to be a number isn't matched again, so only sums and tests are left in the loop)
 #[inline(always)]
 fn take_numbers(summary: &mut Summary, run: &[Kept], from: usize) -> usize
@@ -64,7 +65,7 @@ fn is_number(kept: &Kept) -> bool {
     matches!(kept, Kept::Num(_))
 }
 
-/// Takes the cells from `from` up to `to`, whatever they show.
+/// Adds the cells `from..to` to the summary, whatever they show.
 #[inline(always)]
 fn take_each(summary: &mut Summary, run: &[Kept], from: usize, to: usize)
     requires taken { HasTaken run.now from summary.old }
@@ -78,7 +79,7 @@ fn take_each(summary: &mut Summary, run: &[Kept], from: usize, to: usize)
     }
 }
 
-/// Takes one more cell.
+/// Adds one more cell to the summary.
 #[inline(always)]
 fn take_one(summary: &mut Summary, run: &[Kept], at: usize)
     requires taken { HasTaken run.now at summary.old }

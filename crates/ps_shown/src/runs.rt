@@ -1,6 +1,6 @@
-//! Which blocks of a column are known to be remembered, so that nobody looks at them one by one.
+//! For each column, a run of blocks whose summaries are stored, so that `Shown::remember` needn't test each of them.
 //!
-//! It is a hint: no contract rests on it, and where it misses a block, that block is looked at once more.
+//! It is a hint: no contract rests on it. If a block is missing from the run, `remember` tests that block once more.
 ghost use Rattle.std.specs.Prelude.{◌<◌};
 
 use crate::blocks::BLOCK;
@@ -9,17 +9,17 @@ use ps_grid::{COLUMNS, ROWS};
 /// How many blocks a column has.
 const COLUMN_BLOCKS: usize = (ROWS + BLOCK - 1) / BLOCK;
 
-/// A run of remembered blocks of each column.
+/// One run of remembered blocks (those with a stored summary) for each column. Blocks are numbered across columns.
 #[derive(Drop)]
 pub(crate) struct Runs {
     /// the first block of the column's run
     firsts: [usize; COLUMNS],
-    /// the block after its last
+    /// the block after the last one of the column's run
     ends: [usize; COLUMNS],
 }
 
 impl Runs {
-    /// No block is remembered.
+    /// Creates empty runs: no block is remembered.
     pub(crate) fn new() -> Runs {
         Runs {
             firsts: [0; COLUMNS],
@@ -27,7 +27,7 @@ impl Runs {
         }
     }
 
-    /// The first block of the column, from this one on, that isn't in its run.
+    /// Returns the first block, from `block` on, that isn't in the column's run.
     #[inline]
     pub(crate) fn past(&self, column: usize, block: usize) -> usize
         requires { column < COLUMNS }
@@ -39,8 +39,8 @@ impl Runs {
         }
     }
 
-    /// Adds remembered blocks, from `first` up to `end`, to the column's run. If there is a gap between, they replace
-    /// the run.
+    /// Adds the remembered blocks `first..end` to the column's run. If there is a gap between them and the run, they
+    /// replace it.
     pub(crate) fn extend(&mut self, column: usize, first: usize, end: usize)
         requires { column < COLUMNS }
     {
@@ -53,7 +53,7 @@ impl Runs {
         }
     }
 
-    /// Takes a block, and those after it, out of its column's run.
+    /// Removes a block, and all blocks after it, from its column's run.
     pub(crate) fn cut(&mut self, block: usize) {
         let column = block / COLUMN_BLOCKS;
         if column < COLUMNS && self.firsts[column] <= block && block < self.ends[column] {

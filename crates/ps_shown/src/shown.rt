@@ -1,4 +1,4 @@
-//! What each cell shows.
+//! The table of what each cell shows.
 ghost use Rattle.std.specs.Prelude.{◌≡◌, ◌^◌, ◌<◌, ◌≤◌, ℕ, length, slice_index_or, vec_capacity, IfOk, IfErr};
 ghost use Rattle.std.specs.Prelude.{List, ◌∷◌};
 ghost use Rattle.ps_grid.specs.declared.size.TheConstants.{CELLS as ALL};
@@ -28,25 +28,26 @@ use std::mem;
 /// The places from the top of one column to the top of the next: whole blocks, enough for the rows of a column.
 const STRIDE: usize = (ROWS + BLOCK - 1) / BLOCK * BLOCK;
 
-/// A range of several columns with fewer rows is walked row by row: so short a run of a column doesn't pay.
+/// `summary` reads a range of several columns row by row if it has fewer rows than this, else column by column. So few
+/// rows of a column aren't worth the preparation.
 const FEW_ROWS: usize = 4;
 
-/// The places of a table.
+/// The number of places of a table.
 const PLACES: usize = STRIDE * COLUMNS;
 
-/// The blocks of a table.
+/// The number of blocks of a table.
 const BLOCKS: usize = PLACES / BLOCK;
 
-/// What each cell shows. A contract sees it as a list, and speaks of it by `shown_at`, the value that each cell shows.
+/// What each cell shows. A contract sees it as a list, and names by `shown_at` the value that each cell shows.
 #[derive(Drop)]
 pub struct Shown {
-    /// what is stored for each cell, column after column, up to the last that was put; there is room for all
+    /// the cells, column after column, up to the last one that was ever put; its capacity is all places
     kept: Vec<Kept>,
-    /// the summaries of blocks, `None` where none is remembered, up to the last that ever was; there is room for all
+    /// the stored summaries of blocks, else `None`, up to the last block that ever had one; its capacity is all blocks
     sums: Vec<Option<Summary>>,
-    /// a run of remembered blocks for each column
+    /// a run of blocks with stored summaries for each column
     runs: Runs,
-    /// what a cell after those is read as
+    /// what `kept` returns for a cell beyond the end of the list
     empty: Kept,
 }
 
@@ -77,12 +78,12 @@ fn place(cell: Cell) -> usize
     index % COLUMNS * STRIDE + index / COLUMNS
 }
 
-/// How many places beyond its rows a range takes in each of its columns. A range that reaches the bottom row takes
-/// those up to the column's end, so that its last block is whole: no cell lies there. Any other range takes none.
+/// How many places below its last row a range also covers in each column. A range that reaches the bottom row covers
+/// the empty places up to the column's end, so that its last block is whole. Any other range covers none.
 fn places_below(rect: Rect) -> usize
     ensures { LieBelow rect result }
 {
-    // for the fact that the range lies in the grid
+    // tells the prover that the range lies in the grid
     let _ = rect.area();
     if rect.bottom_right().index() >= (ROWS - 1) * COLUMNS {
         STRIDE - ROWS
@@ -91,7 +92,7 @@ fn places_below(rect: Rect) -> usize
     }
 }
 
-/// Extends the table with empty places up to this one.
+/// Extends the list with empty places up to this one.
 fn reach(kept: &mut Vec<Kept>, place: usize)
     requires room { place < vec_capacity kept.old }
     ensures reached { place < length kept.new.items }
@@ -103,7 +104,7 @@ fn reach(kept: &mut Vec<Kept>, place: usize)
     }
 }
 
-/// The summary of a fault and the items of another summary.
+/// The summary of a fault, followed by the items of another summary.
 fn led_by(fault: Fault, others: &Summary) -> Summary
     requires room { numbers_taken others.now < 2 ^ 60 }
     ensures { (items : List Number) → Summarizes items others.now → Summarizes (Err fault ∷ items) result }
@@ -115,9 +116,9 @@ fn led_by(fault: Fault, others: &Summary) -> Summary
 }
 
 impl Shown {
-    /// Returns the table where each cell shows nothing. Fails only when out of memory.
+    /// Creates a table where each cell shows nothing. Fails only when out of memory.
     ///
-    /// Cost: two allocations, 2 MB together; nothing is written yet.
+    /// Cost: two allocations, 2 MB together, which it reserves and doesn't write.
     pub fn new(alloc: Global) -> Result<Shown, Refusal>
         ensures empty { IfOk result (λ s. shown_at s ≡ λ _. Nothing) }
         ensures memory { IfErr result (λ e. e ≡ Memory) }
@@ -139,7 +140,7 @@ impl Shown {
         self.kept(cell).value()
     }
 
-    /// Returns what is stored for a cell.
+    /// Returns the stored form of what a cell shows.
     #[inline]
     pub fn kept(&self, cell: Cell) -> &Kept
         ensures { value_of result.now ≡ shown_at self.now cell }
@@ -152,7 +153,7 @@ impl Shown {
         }
     }
 
-    /// Returns what evaluation reads of a cell's value.
+    /// Returns the part of a cell's value that evaluation needs. A text gives no bytes; options give their number.
     #[inline]
     pub fn operand(&self, cell: Cell) -> Operand
         ensures { result ≡ operand_of (shown_at self.now cell) }
@@ -160,16 +161,16 @@ impl Shown {
         self.kept(cell).operand()
     }
 
-    /// Returns what SUM, MIN, MAX and COUNT need to know of the items of a range. If it has faults, the first one
-    /// counts, row by row.
+    /// Returns what SUM, MIN, MAX and COUNT need to know of the numbers and faults in a range. If there are several
+    /// faults, it has the first one, row by row.
     ///
-    /// Cost: a step for each remembered block that has all its rows in the range, and one for each other cell. A
-    /// column's last block has 55 rows, and each other 57. If several columns have a fault, the search for the first
-    /// costs as much again at most, and a walk of one remembered block for each column.
+    /// Cost: a step for each block that has a stored summary and all its rows in the range, and one for each other
+    /// cell. A block has 57 rows of a column, and a column's last block 55. If a range of several columns has a fault,
+    /// finding the first one costs at most as much again, and a step for each cell of one more block in each column.
     pub fn summary(&self, rect: Rect) -> Summary
         ensures { Summarizes (range_items (shown_at self.now) rect) result }
     {
-        // for the fact that the range lies in the grid
+        // tells the prover that the range lies in the grid
         let _ = rect.area();
         if rect.width() == 1 {
             return self.column(rect, 0, places_below(rect));
@@ -187,11 +188,11 @@ impl Shown {
         }
     }
 
-    /// The first fault of a range, row by row. Each column is searched only above the faults found so far.
+    /// The first fault of a range, row by row. In each column it reads only the rows above the faults found so far.
     fn first_fault(&self, rect: Rect) -> Option<Fault>
         ensures { result ≡ first_fault (range_items (shown_at self.now) rect) }
     {
-        // for the fact that the range lies in the grid
+        // tells the prover that the range lies in the grid
         let _ = rect.area();
         let columns = rect.width();
         let mut rows = rect.height();
@@ -210,12 +211,12 @@ impl Shown {
         first
     }
 
-    /// The summary of the items of a range, column after column.
+    /// The summary of a range, column after column. So its first fault may not be the first one row by row.
     fn columns(&self, rect: Rect) -> Summary
         ensures summary { Summarizes (items_by_columns (shown_at self.now) rect rect.width) result }
         ensures in_grid { LiesInGrid rect }
     {
-        // for the fact that the range lies in the grid
+        // tells the prover that the range lies in the grid
         let _ = rect.area();
         let below = places_below(rect);
         let mut summary = Summary::new();
@@ -225,24 +226,24 @@ impl Shown {
         summary
     }
 
-    /// The summary of the items of one column of a range. It takes `below` places after the column's rows too.
+    /// The summary of one column of a range, and of the `below` empty places after the column's rows.
     fn column(&self, rect: Rect, across: usize, below: usize) -> Summary
         requires across { across < rect.width }
         requires below { LieBelow rect below }
         ensures { Summarizes (column_items (shown_at self.now) rect across) result }
     {
-        // for the fact that the range lies in the grid
+        // tells the prover that the range lies in the grid
         let _ = rect.area();
         let top = place(rect.at(across, 0));
         summary_between(&self.kept, &self.sums, top, top + rect.height() + below)
     }
 
-    /// Remembers the summary of each block that has all its rows in the range. What the cells show stays.
+    /// Stores the summary of each block that has all its rows in the range. What the cells show stays the same.
     ///
-    /// `summary` then doesn't walk those cells again until `put` drops the block's summary.
+    /// `summary` then reads these cells no more until `put` drops the block's summary.
     ///
-    /// Cost: constant for each column where all blocks of the range are known to be remembered. For any other column,
-    /// its blocks, and the cells of those that aren't remembered yet.
+    /// Cost: for each column, its blocks in the range, and the cells of those that have no summary yet. It is constant
+    /// for a column if a run of blocks known to have summaries reaches through the range.
     pub fn remember(&mut self, rect: Rect)
         ensures { self.new ≡ self.old }
     {
@@ -252,13 +253,13 @@ impl Shown {
         }
     }
 
-    /// Remembers the blocks of one column of the range, with `below` places after its rows.
+    /// Stores the summaries for one column of the range and the `below` empty places after its rows.
     fn remember_column(&mut self, rect: Rect, across: usize, below: usize)
         requires across { across < rect.width }
         requires below { LieBelow rect below }
         ensures { self.new ≡ self.old }
     {
-        // for the fact that the range lies in the grid
+        // tells the prover that the range lies in the grid
         let _ = rect.area();
         let top = place(rect.at(across, 0));
         let first = top.div_ceil(BLOCK);
@@ -271,14 +272,14 @@ impl Shown {
         }
     }
 
-    /// Stores what a cell shows from now on, and returns what was stored for it. It takes no memory.
+    /// Stores what a cell shows from now on, and returns what it showed before. It takes no memory.
     ///
-    /// The summary of the cell's block follows what is put. It is dropped if the block has a fault, even if that fault
-    /// is the one that goes. It is also dropped if the number that goes was the block's least or greatest, even if the
-    /// same number comes. The next `remember` then walks the block.
+    /// It updates the summary of the cell's block, or drops it. It drops the summary if some cell of the block had a
+    /// fault, even this one. It also drops the summary if the old number was the block's least or greatest, even if the
+    /// new number is the same. The next `remember` then reads the whole block.
     ///
-    /// Cost: constant, except that a cell beyond all that were put has the places up to it written. All calls together
-    /// write the table once at most.
+    /// Cost: constant, except that a put beyond the places of all earlier ones also writes the places between. All such
+    /// writes together cover the table once at most.
     #[inline(always)]
     pub fn put(&mut self, cell: Cell, kept: Kept) -> Kept
         ensures shown { shown_at self.new ≡ with_value (shown_at self.old) cell (value_of kept) }
@@ -291,7 +292,7 @@ impl Shown {
     }
 }
 
-/// Evaluation reads the table as it lies.
+/// Evaluation reads the table directly; `summary` uses the stored summaries of blocks.
 impl Look for Shown {
     ghost use Rattle.ps_shown.specs.Shown.{shown_at};
 
@@ -310,7 +311,7 @@ impl Look for Shown {
     }
 }
 
-/// The twin shares each text, and remembers no summaries.
+/// The twin shares each text, and starts without stored summaries.
 impl Twin for Shown {
     fn twin(&self, alloc: Global) -> Result<Shown, Refusal> {
         let mut kept = Vec::with_capacity(alloc, PLACES)?;

@@ -3,7 +3,7 @@ use Rattle.std.proofs.Common.{◌≡◌, ℕ, ◌==◌, Bool, true, false, cond,
 use Rattle.std.specs.Option.{option_map}
 use Rattle.std.proofs.lemmas.Bool.{eqb-true}
 
--- a value is that of the test or that of the others
+-- the value of `cond b (Some x) o` is x, or it is the value of o
 pub if_some_or : {X P : Type 0} (b : Bool) (x y : X) (o : Option X) → (b ≡ true → x ≡ y → P) → (o ≡ Some y → P)
     → cond b (Some x) o ≡ Some y → P
 if_some_or true x y o this others e = this refl cc

@@ -53,7 +53,7 @@ token_of_one-some a y e =
     (if_some_or _ Separator y _ (λ t s. one_byte a 59 Separator y t s refl) (λ h. cc)))))))))
     e
 
--- of two options one answered
+-- the value of `option_or` comes from the first option or from the second
 pub option_or_from : {X P : Type 0} (o p : Option X) (y : X) → (o ≡ Some y → P) → (p ≡ Some y → P)
     → option_or o p ≡ Some y → P
 option_or_from None p y first second e = second e

@@ -1,6 +1,6 @@
--- Which tokens may stand side by side. This is no part of what a formula is. A text is read from the left, the longest
--- token first. That finds every list of tokens in which no two neighbours could be read as one longer token. In a
--- formula no such neighbours stand.
+-- Which tokens may stand side by side. A formula's definition doesn't need this. A text is read from the left, the
+-- longest token first. This reading finds every list of tokens in which no two neighbours could be read as one longer
+-- token. In a formula no such neighbours stand.
 use Rattle.std.specs.Prelude.{◌≡◌, Bool, true, false, List, [], ◌∷◌}
 use Rattle.ps_tokens.specs.declared.token.Token.{Token}
 use Rattle.ps_tokens.specs.declared.token.Token.TheVariants.{Numeral, Name, Symbol}
@@ -22,7 +22,7 @@ join (Name _) (Name _) = true
 join (Symbol x) (Symbol y) = signs_join x y
 join _ _ = false
 
--- the token could not be read as one with the first of the tokens after it
+-- the token couldn't be read as one token with the first of those after it
 abbrev pub IsApart : Token → List Token → Type 0
 IsApart x [] = Unit {0}
 IsApart x (y ∷ ts) = join x y ≡ false

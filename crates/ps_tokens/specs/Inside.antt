@@ -1,2 +1,2 @@
--- What the code of this crate holds and how it works, in words that no public contract cites.
+-- How the code of this crate works, in definitions that no public contract cites.
 pub mod Lexing

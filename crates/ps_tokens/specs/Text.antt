@@ -18,7 +18,7 @@ use Rattle.ps_tokens.specs.declared.token.Token.TheVariants.{Separator}
 abbrev pub is_blank : ℕ → Bool
 is_blank b = ((b == 32 || b == 9) || b == 10) || b == 13
 
--- `$`, where a column or a row is marked as fixed
+-- `$` if a column or a row is marked as fixed, else nothing
 abbrev pub mark : Bool → List ℕ
 mark true = codes "$"
 mark false = []

@@ -1,4 +1,5 @@
-//! The token at the front of a text. Each function returns what it found and the text after it.
+//! Reads the token at the front of a text. A function that finds a token, or a piece of one, returns it with the text
+//! after it.
 
 ghost use Rattle.std.specs.Prelude.{◌≡◌, ◌<◌, ◌≤◌, ◌^◌, drop, length, slice_index, IfSome, pos};
 ghost use Rattle.std.specs.Option.{option_map};
@@ -11,14 +12,14 @@ ghost use Rattle.ps_tokens.specs.Inside.Lexing.{token_of_one, unmarked};
 use crate::token::{FUNCTIONS, Function, Operator, Token};
 use ps_grid::{Cell, Rect};
 
-/// Returns the byte at a position, and 0 past the end.
+/// Returns the byte at a position; 0 past the end.
 pub(crate) fn byte_at(text: &[u8], place: usize) -> u8
     ensures { result ≡ slice_index text.now place }
 {
     if place < text.len() { text[place] } else { 0 }
 }
 
-/// Returns the text from a position on, and an empty text past the end.
+/// Returns the text from a position on; an empty text past the end.
 pub(crate) fn from(text: &[u8], place: usize) -> &[u8]
     ensures { result.now ≡ drop place text.now }
 {
@@ -29,7 +30,7 @@ pub(crate) fn from(text: &[u8], place: usize) -> &[u8]
     }
 }
 
-/// The text after a byte, where that byte stands at the front.
+/// Returns the text after its first byte if that is `byte`, else `None`.
 #[tactic(auto, unfolding(crate::specs::Inside::Lexing::after))]
 fn after(byte: u8, text: &[u8]) -> Option<&[u8]>
     ensures { option_map (λ rest. rest.now) result ≡ after byte text.now }
@@ -41,7 +42,7 @@ fn after(byte: u8, text: &[u8]) -> Option<&[u8]>
     }
 }
 
-/// The text after a `$`, if one stands at the front.
+/// Returns the text without the `$` at its front, or the whole text if it has none there.
 #[tactic(auto, unfolding(crate::specs::Inside::Lexing::unmarked))]
 fn unmarked(text: &[u8]) -> &[u8]
     ensures { result.now ≡ unmarked text.now }
@@ -53,7 +54,7 @@ fn unmarked(text: &[u8]) -> &[u8]
     }
 }
 
-/// How many digits stand at the front.
+/// Returns how many digits stand at the front.
 fn digits_at(text: &[u8]) -> usize
     ensures count { result ≡ digits_at text.now }
     ensures in_text { result ≤ length text.now }
@@ -61,7 +62,7 @@ fn digits_at(text: &[u8]) -> usize
     text.iter().take_while(|byte| byte.is_ascii_digit()).count()
 }
 
-/// How many capital letters stand at the front, at most two: a column has no more.
+/// Returns how many capital letters stand at the front, at most two: the name of a column has no more.
 #[inline(always)]
 fn capitals_at(text: &[u8]) -> usize
     ensures count { result ≡ capitals_at text.now }
@@ -74,7 +75,7 @@ fn capitals_at(text: &[u8]) -> usize
     }
 }
 
-/// How many letters stand at the front.
+/// Returns how many letters stand at the front.
 fn letters_at(text: &[u8]) -> usize
     ensures count { result ≡ letters_at text.now }
     ensures in_text { result ≤ length text.now }
@@ -84,7 +85,7 @@ fn letters_at(text: &[u8]) -> usize
         .count()
 }
 
-/// The number that the digits write, where it is at most 2^63 - 1.
+/// Returns the number that the digits stand for; `None` if it is above 2^63 - 1.
 #[tactic(auto, unfolding(crate::specs::Inside::Lexing::number_in))]
 fn number(digits: &[u8]) -> Option<u64>
     requires { AllDigits 10 digits.now }
@@ -105,7 +106,7 @@ fn number(digits: &[u8]) -> Option<u64>
     Some(value)
 }
 
-/// The corner at the front, without the `$` that mark it as fixed.
+/// Reads a corner, a cell's name with or without `$` before its column and its row, at the front.
 #[tactic(auto, unfolding(crate::specs::Inside::Lexing::corner_at))]
 fn corner(text: &[u8]) -> Option<(Cell, &[u8])>
     ensures { option_map (λ found. (found.0, found.1.now)) result ≡ corner_at text.now }
@@ -118,7 +119,7 @@ fn corner(text: &[u8]) -> Option<(Cell, &[u8])>
     Some((cell, rest))
 }
 
-/// The reference whose corner was read, if its bracket is closed.
+/// Returns the reference to `corner`, read before `text`, if a `]` closes it.
 #[tactic(auto, unfolding(crate::specs::Inside::Lexing::reference_at))]
 fn reference(corner: Cell, text: &[u8]) -> Option<(Token, &[u8])>
     ensures { option_map (λ found. (found.0, found.1.now)) result ≡ reference_at corner text.now }
@@ -127,7 +128,7 @@ fn reference(corner: Cell, text: &[u8]) -> Option<(Token, &[u8])>
     Some((Token::Reference(corner), rest))
 }
 
-/// The range whose first corner was read.
+/// Reads the rest of a range whose first corner was read before `text`: `:.`, the second corner and `]`.
 #[tactic(auto, unfolding(crate::specs::Inside::Lexing::range_at))]
 fn range(first: Cell, text: &[u8]) -> Option<(Token, &[u8])>
     ensures { option_map (λ found. (found.0, found.1.now)) result ≡ range_at first text.now }
@@ -141,7 +142,7 @@ fn range(first: Cell, text: &[u8]) -> Option<(Token, &[u8])>
     Some((Token::Range(Rect::new(first, second)), rest))
 }
 
-/// The reference or the range whose bracket was opened.
+/// Reads the rest of a reference or a range whose `[` was read before `text`.
 #[tactic(auto, unfolding(crate::specs::Inside::Lexing::bracketed_at))]
 fn bracketed(text: &[u8]) -> Option<(Token, &[u8])>
     ensures { option_map (λ found. (found.0, found.1.now)) result ≡ bracketed_at text.now }
@@ -156,7 +157,7 @@ fn bracketed(text: &[u8]) -> Option<(Token, &[u8])>
     range(first, text)
 }
 
-/// The numeral at the front.
+/// Reads the numeral at the front; `None` if its number is too large.
 #[tactic(auto, unfolding(crate::specs::Inside::Lexing::numeral_at))]
 fn numeral(text: &[u8]) -> Option<(Token, &[u8])>
     ensures { option_map (λ found. (found.0, found.1.now)) result ≡ numeral_at text.now }
@@ -166,7 +167,7 @@ fn numeral(text: &[u8]) -> Option<(Token, &[u8])>
     Some((Token::Numeral(value as i64), rest))
 }
 
-/// The function of a name in any case.
+/// Returns the function that has this name, in any mix of cases.
 #[tactic(auto, unfolding(crate::specs::Inside::Lexing::function_of))]
 fn function(name: &[u8]) -> Option<Function>
     ensures { result ≡ function_of name.now }
@@ -179,7 +180,7 @@ fn function(name: &[u8]) -> Option<Function>
     None
 }
 
-/// The name at the front.
+/// Reads the name of a function at the front.
 #[tactic(auto, unfolding(crate::specs::Inside::Lexing::name_at))]
 fn name(text: &[u8]) -> Option<(Token, &[u8])>
     ensures { option_map (λ found. (found.0, found.1.now)) result ≡ name_at text.now }
@@ -189,7 +190,7 @@ fn name(text: &[u8]) -> Option<(Token, &[u8])>
     Some((Token::Name(function), rest))
 }
 
-/// The operator of two bytes.
+/// Returns the operator that is written with these two bytes.
 #[tactic(auto, unfolding(crate::specs::Inside::Lexing::operator_of_two))]
 fn operator_of_two(first: u8, second: u8) -> Option<Operator>
     ensures { result ≡ operator_of_two first second }
@@ -202,7 +203,7 @@ fn operator_of_two(first: u8, second: u8) -> Option<Operator>
     }
 }
 
-/// The token of one byte that is no digit and no letter.
+/// Returns the operator, parenthesis or separator that is written with this byte.
 #[tactic(auto, unfolding(crate::specs::Inside::Lexing::token_of_one))]
 fn token_of_one(byte: u8) -> Option<Token>
     ensures { result ≡ token_of_one byte }
@@ -221,7 +222,7 @@ fn token_of_one(byte: u8) -> Option<Token>
     }
 }
 
-/// The operator, parenthesis or separator at the front. Two bytes are read as one operator where they are one.
+/// Reads the operator, parenthesis or separator at the front, and prefers an operator of two bytes.
 #[tactic(auto, unfolding(crate::specs::Inside::Lexing::sign_at))]
 fn sign(text: &[u8]) -> Option<(Token, &[u8])>
     ensures { option_map (λ found. (found.0, found.1.now)) result ≡ sign_at text.now }
@@ -233,7 +234,7 @@ fn sign(text: &[u8]) -> Option<(Token, &[u8])>
     Some((token, from(text, 1)))
 }
 
-/// Returns the longest token at the front of the text, and the text after it.
+/// Returns the longest token at the front of the text, and the text after it; `None` if no token stands there.
 #[tactic(auto, unfolding(crate::specs::Inside::Lexing::token_at))]
 pub(crate) fn token(text: &[u8]) -> Option<(Token, &[u8])>
     ensures { option_map (λ found. (found.0, found.1.now)) result ≡ token_at text.now }

@@ -12,7 +12,7 @@ pub fn one_spelling()
         → Spells text ts → AreApart ts → Spells text us → AreApart us → ts ≡ us }
 {}
 
-/// States that tokens spelled by some text are spelled by their canonical text too.
+/// States that the canonical text of tokens spells these tokens, if any text does.
 #[tactic(auto, using(crate::proofs::CanonicalSpelling::text_spells))]
 pub fn canonical_spelling()
     ensures { (text : List ℕ) (ts : List Token) → Spells text ts → Spells (tokens_text ts) ts }

@@ -1,4 +1,4 @@
-//! Reading the tokens of a text.
+//! Reads the tokens of a text.
 
 ghost use Rattle.std.specs.Prelude.{◌≡◌, IfOk, IfErr, MatchResult, List, ◌⊎◌};
 ghost use Rattle.ps_grid.specs.declared.refusal.Refusal.TheVariants.{Formula, Memory};
@@ -11,7 +11,7 @@ use crate::token::Token;
 use ps_grid::Refusal;
 use std::alloc::Global;
 
-/// Whether a byte may stand between tokens.
+/// Returns whether the byte is a blank, which may stand between tokens.
 fn is_blank(byte: u8) -> bool
     ensures { result ≡ is_blank byte }
 {
@@ -20,12 +20,12 @@ fn is_blank(byte: u8) -> bool
 
 /// Returns a list of tokens that the text spells, with blanks anywhere between them.
 ///
-/// From the left on, the longest token is read at each position, so `<=` is one operator and `12` one numeral. If the
-/// text spells a list in which no two neighbours could be read as one token, the result is that list.
+/// The text is read from the left, the longest token first, so `<=` is one operator and `12` one numeral. If the text
+/// spells a list in which no two neighbours could be read as one token, the result is that list.
 ///
 /// # Errors
 ///
-/// - `Formula`: the text spells no such list.
+/// - `Formula`: the text spells no list without such neighbours.
 /// - `Memory`: out of memory.
 ///
 /// Cost: linear in the bytes, one allocation.

@@ -1,4 +1,4 @@
-//! What a token is.
+//! The tokens of formulas, with their functions and operators.
 
 ghost use Rattle.std.specs.Prelude.{◌≡◌};
 ghost use Rattle.ps_tokens.specs.Names.{function_name, operator_text};
@@ -8,15 +8,15 @@ use ps_grid::{Cell, Rect};
 /// A function of the formula language.
 #[derive(Clone, Copy, Debug, PartialEq, Eq)]
 pub enum Function {
-    /// `SUM`: the exact sum.
+    /// `SUM`: the exact sum of the numbers in its arguments.
     Sum,
-    /// `MIN`: the least number.
+    /// `MIN`: the least number in its arguments.
     Min,
-    /// `MAX`: the greatest number.
+    /// `MAX`: the greatest number in its arguments.
     Max,
-    /// `COUNT`: how many numbers there are.
+    /// `COUNT`: how many numbers its arguments have.
     Count,
-    /// `IF`: one of two, by a condition.
+    /// `IF`: one of two arguments, chosen by a condition.
     If,
     /// `MOD`: the remainder, with the sign of the divisor.
     Mod,
@@ -24,11 +24,11 @@ pub enum Function {
     Quotient,
     /// `ABS`: the magnitude.
     Abs,
-    /// `AND`: whether all hold.
+    /// `AND`: whether all arguments hold.
     And,
-    /// `OR`: whether one holds.
+    /// `OR`: whether at least one argument holds.
     Or,
-    /// `NOT`: whether it doesn't hold.
+    /// `NOT`: whether the argument doesn't hold.
     Not,
     /// `TRUE`: 1.
     True,
@@ -81,9 +81,9 @@ pub enum Operator {
 pub enum Token {
     /// A whole number, from 0 to 9223372036854775807.
     Numeral(i64),
-    /// A reference, as `[.A1]`.
+    /// A reference to a cell, such as `[.A1]`.
     Reference(Cell),
-    /// A range, as `[.A1:.B3]`, by the rectangle of its corners.
+    /// A range of cells, such as `[.A1:.B3]`: the rectangle between its corners.
     Range(Rect),
     /// The name of a function.
     Name(Function),
@@ -121,7 +121,7 @@ impl Function {
 }
 
 impl Operator {
-    /// Returns how the operator is written.
+    /// Returns the sign of the operator, such as `<=`.
     pub fn text(self) -> &'static str
         ensures { result.now ≡ operator_text self }
     {

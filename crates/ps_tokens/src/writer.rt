@@ -1,4 +1,4 @@
-//! Writing tokens canonically.
+//! Writes tokens canonically.
 
 ghost use Rattle.std.specs.Prelude.{◌≡◌, ◌++◌, OnOk, OnErr, IfErr, codes, length, take};
 ghost use Rattle.ps_grid.specs.Place.{cell_name};
@@ -10,7 +10,7 @@ use crate::token::Token;
 use itoa::Buffer;
 use ps_grid::{Cell, NAME_BYTES, Rect, Refusal};
 
-/// Writes the bytes, or nothing where that is refused.
+/// Appends the bytes to `out`, or nothing if memory runs out.
 fn put(out: &mut Vec<u8>, text: &[u8]) -> Result<(), Refusal>
     ensures ok { OnOk result (out.new.items ≡ out.old.items ++ text.now) }
     ensures err { OnErr result (out.new.items ≡ out.old.items) }
@@ -20,7 +20,7 @@ fn put(out: &mut Vec<u8>, text: &[u8]) -> Result<(), Refusal>
     Ok(())
 }
 
-/// Writes the name of a cell.
+/// Appends the name of the cell to `out`, or nothing if memory runs out.
 fn put_cell(out: &mut Vec<u8>, cell: Cell) -> Result<(), Refusal>
     ensures ok { OnOk result (out.new.items ≡ out.old.items ++ cell_name cell) }
     ensures err { OnErr result (out.new.items ≡ out.old.items) }
@@ -31,7 +31,7 @@ fn put_cell(out: &mut Vec<u8>, cell: Cell) -> Result<(), Refusal>
     put(out, &name[..length])
 }
 
-/// Writes a reference. Where that is refused, a part of it may stand at the end of `out`.
+/// Appends a reference to `out`, or perhaps only a part of it if memory runs out.
 fn put_reference(out: &mut Vec<u8>, cell: Cell) -> Result<(), Refusal>
     ensures ok { OnOk result (out.new.items ≡ out.old.items ++ (codes "[." ++ (cell_name cell ++ codes "]"))) }
     ensures err { OnErr result (take (length out.old.items) out.new.items ≡ out.old.items) }
@@ -42,7 +42,7 @@ fn put_reference(out: &mut Vec<u8>, cell: Cell) -> Result<(), Refusal>
     put(out, b"]")
 }
 
-/// Writes a range. Where that is refused, a part of it may stand at the end of `out`.
+/// Appends a range to `out`, or perhaps only a part of it if memory runs out.
 fn put_range(out: &mut Vec<u8>, rect: Rect) -> Result<(), Refusal>
     ensures ok { OnOk result (out.new.items ≡ out.old.items
         ++ (codes "[." ++ (cell_name (first_cell rect) ++ (codes ":." ++ (cell_name (last_cell rect) ++ codes "]"))))) }
@@ -56,7 +56,7 @@ fn put_range(out: &mut Vec<u8>, rect: Rect) -> Result<(), Refusal>
     put(out, b"]")
 }
 
-/// Writes a token. Where that is refused, a part of it may stand at the end of `out`.
+/// Appends a token to `out`, or perhaps only a part of it if memory runs out.
 fn put_spelling(out: &mut Vec<u8>, token: &Token) -> Result<(), Refusal>
     ensures ok { OnOk result (out.new.items ≡ out.old.items ++ token_text token.now) }
     ensures err { OnErr result (take (length out.old.items) out.new.items ≡ out.old.items) }
@@ -74,7 +74,7 @@ fn put_spelling(out: &mut Vec<u8>, token: &Token) -> Result<(), Refusal>
     }
 }
 
-/// Appends the canonical spelling of the token. Refused only when out of memory, and then nothing is written.
+/// Appends the canonical spelling of the token to `out`. Refused only when out of memory; `out` is then unchanged.
 ///
 /// Cost: constant, apart from growing the list.
 pub fn put_token(out: &mut Vec<u8>, token: &Token) -> Result<(), Refusal>

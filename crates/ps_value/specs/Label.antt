@@ -21,7 +21,7 @@ IsLabel bytes = IsTrue (is_label bytes)
 unfoldable pub padded : List ℕ → List ℕ
 padded bytes = bytes ++ replicate (LABEL_BYTES - length bytes) 0
 
--- how a label lies in its room: its bytes in front, zeros after them
+-- how a label is stored: its bytes in front, zeros after them up to LABEL_BYTES
 pub record IsStored (room : List ℕ) (used : ℕ) : Type 0 where
   pub within : used ≤ length room
   pub zeros : room ≡ padded (take used room)

@@ -13,7 +13,7 @@ use Rattle.ps_value.specs.declared.value.Value.TheVariants as values
 abbrev pub is_chosen : ℕ → ℕ → Bool
 is_chosen bits k = bit_at bits k == 1
 
--- the options that the bits stand for, of those below a bound, ascending
+-- the options below a bound that the bits stand for, ascending
 unfoldable pub options_below : ℕ → ℕ → List ℕ
 options_below bound bits = filter (is_chosen bits) (range_with_len 0 bound)
 

@@ -1,4 +1,4 @@
--- That a label gives its room back.
+-- The fields of a stored label follow from its bytes.
 use Rattle.std.specs.Prelude.{◌≡◌, length, take}
 use Rattle.std.proofs.Common.{sym, arith, length-take}
 use Rattle.ps_value.specs.Label.{padded, IsStored}

@@ -42,7 +42,7 @@ impl Model for Label {
 }
 
 impl Label {
-    /// Returns the label of these bytes; `None` where they are no label.
+    /// Returns the label with these bytes; `None` if a label can't have them.
     ///
     /// Cost: linear in the bytes, no memory.
     pub fn new(bytes: &[u8]) -> Option<Label>
@@ -105,7 +105,7 @@ impl Ord for Label {
     }
 }
 
-/// Whether these are the bytes of a label.
+/// Returns whether these are the bytes of a label.
 fn is_text_of_one_line(bytes: &[u8]) -> bool
     ensures { result ≡ is_label bytes.now }
 {
@@ -113,21 +113,21 @@ fn is_text_of_one_line(bytes: &[u8]) -> bool
     1 <= len && len <= LABEL_BYTES && is_all_printed(bytes) && is_text(bytes)
 }
 
-/// Whether no byte is a control character or DEL.
+/// Returns whether no byte is a control character or DEL.
 fn is_all_printed(bytes: &[u8]) -> bool
     ensures { result ≡ list_all is_printed bytes.now }
 {
     bytes.iter().all(|b| 32 <= *b && *b != 127)
 }
 
-/// Whether the bytes are UTF-8.
+/// Returns whether the bytes are UTF-8.
 fn is_text(bytes: &[u8]) -> bool
     ensures { result ≡ is_utf8 bytes.now }
 {
     str::from_utf8(bytes).is_ok()
 }
 
-/// The bytes, and zeros after them.
+/// Returns the bytes, with zeros after them.
 fn in_room(bytes: &[u8]) -> [u8; LABEL_BYTES]
     requires { length bytes.now ≤ LABEL_BYTES }
     ensures { result ≡ padded bytes.now }

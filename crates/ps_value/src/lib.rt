@@ -1,15 +1,15 @@
 //! The values that cells show, and their text.
 //!
-//! It knows no formulas, no edits and no replicas: what a cell holds stands elsewhere.
+//! This crate knows no formulas, no edits and no replicas. Other crates say what a cell holds, such as a formula.
 //!
 //! The value `Choice` with bits 1 and 4 set is shown as `{1,4}`, and the fault of a division by zero
 //! as `#DIV/0!`.
 //!
-//! The contract to use is that of `write_shown`. It writes exactly `shown_text` of the value, or returns `Device`, and
-//! that only where the sink's count of failures rose.
+//! The contract to use is the one of `write_shown`. It writes exactly `shown_text` of the value, or it returns `Device`
+//! because the sink failed.
 //!
-//! Cost: a value is copied in constant time and takes no memory. A `SharedLabel` is a label on the heap with any number
-//! of owners: one allocation for all of them.
+//! Cost: a value is copied in constant time, and takes no memory on the heap. A `SharedLabel` is a label on the heap
+//! with any number of owners: one allocation for all of them.
 #![tactic(auto)]
 
 mod label;

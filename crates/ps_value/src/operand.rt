@@ -1,10 +1,11 @@
-//! What evaluation reads of a value.
+//! What formulas read from the value of a cell.
 ghost use Rattle.std.specs.Prelude.{◌≡◌};
 ghost use Rattle.ps_value.specs.Operand.{operand_of};
 
 use crate::value::{Fault, Value};
 
-/// The part of a shown value that evaluation reads. It has no bytes of a text, and only the number of chosen options.
+/// What a formula reads from the value of a cell. Of a text it reads no bytes, and of a choice only how many options
+/// are chosen.
 #[derive(Clone, Copy, PartialEq, Eq, Debug)]
 pub enum Operand {
     /// An empty cell.
@@ -18,7 +19,7 @@ pub enum Operand {
 }
 
 impl Value {
-    /// Returns the part of the value that evaluation reads.
+    /// Returns what a formula reads from a cell with this value.
     #[inline]
     pub fn operand(self) -> Operand
         ensures { result ≡ operand_of self }

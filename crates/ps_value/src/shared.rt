@@ -1,4 +1,4 @@
-//! A text that several owners share.
+//! Labels that several owners share.
 ghost use Rattle.std.specs.Prelude.{◌≡◌, IfOk, IfErr, nat_eq};
 ghost use Rattle.std.specs.Cmp.Lexicographic.{pointwise, nat_list_eq_equiv};
 ghost use Rattle.std.specs.Cmp.{partial_equiv_from_equiv};
@@ -10,7 +10,7 @@ use std::alloc::Global;
 use std::marker::Model;
 use std::sync::Arc;
 
-/// A label with any number of owners. A contract sees it as the bytes of the label, whoever owns it.
+/// A label on the heap with any number of owners. In contracts it is the bytes of the label.
 #[derive(Drop)]
 pub struct SharedLabel {
     label: Arc<Label>,
@@ -46,7 +46,7 @@ impl SharedLabel {
     }
 }
 
-/// A twin is one more owner of the same label, and takes no memory.
+/// A twin (a copy) is one more owner of the same label, and takes no memory.
 impl Twin for SharedLabel {
     fn twin(&self, alloc: Global) -> Result<SharedLabel, Refusal> {
         let _ = alloc;
@@ -55,7 +55,7 @@ impl Twin for SharedLabel {
     }
 }
 
-/// Shared labels are equal where their bytes are.
+/// Shared labels are equal if their bytes are.
 impl PartialEq for SharedLabel {
     ghost eq = { pointwise nat_eq };
 

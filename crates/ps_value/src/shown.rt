@@ -11,10 +11,10 @@ use ps_grid::Refusal;
 
 /// Writes the text that a cell with this value shows.
 ///
-/// The text is nothing, the number in decimal, the bytes of the text, or the name of the fault. Options are written
-/// ascending, in braces, with commas between.
+/// An empty cell shows nothing, a number its decimal digits, a text its bytes, and a fault its name, as `#DIV/0!`. A
+/// choice shows its options, ascending, as `{1,4}`.
 ///
-/// Refused as `Device` where the sink failed; then some of the text may have been written.
+/// Refused as `Device` if the sink failed. The beginning of the text may then have been written.
 ///
 /// Cost: linear in the length of the text, no memory.
 pub fn write_shown<K: Sink>(value: Value, sink: &mut K) -> Result<(), Refusal>
@@ -26,7 +26,7 @@ pub fn write_shown<K: Sink>(value: Value, sink: &mut K) -> Result<(), Refusal>
     put_shown(value, sink).map_err(|_| Refusal::Device)
 }
 
-/// Puts the text of the value.
+/// Writes the text of the value.
 fn put_shown<K: Sink>(value: Value, sink: &mut K) -> Result<(), Failed>
     ensures shown { Sends (K.contents sink.old) (K.contents sink.new) result (shown_text value) }
     ensures calm { OnOk result (K.failures sink.new ≡ K.failures sink.old) }
@@ -41,7 +41,7 @@ fn put_shown<K: Sink>(value: Value, sink: &mut K) -> Result<(), Failed>
     }
 }
 
-/// The name of the fault.
+/// Returns the name of the fault.
 fn text_of_fault(fault: Fault) -> &'static [u8]
     ensures { result.now ≡ fault_text fault }
 {
@@ -53,7 +53,7 @@ fn text_of_fault(fault: Fault) -> &'static [u8]
     }
 }
 
-/// Puts the number in decimal.
+/// Writes the number in decimal.
 fn put_number<K: Sink, I: Integer>(number: I, sink: &mut K) -> Result<(), Failed>
     ensures shown { Sends (K.contents sink.old) (K.contents sink.new) result (I.text number) }
     ensures calm { OnOk result (K.failures sink.new ≡ K.failures sink.old) }
@@ -64,7 +64,7 @@ fn put_number<K: Sink, I: Integer>(number: I, sink: &mut K) -> Result<(), Failed
     put_all(sink, digits.as_bytes())
 }
 
-/// Puts the options, ascending, in braces.
+/// Writes the options, ascending, in braces.
 fn put_choice<K: Sink>(bits: u64, sink: &mut K) -> Result<(), Failed>
     ensures shown { Sends (K.contents sink.old) (K.contents sink.new) result (choice_text bits) }
     ensures calm { OnOk result (K.failures sink.new ≡ K.failures sink.old) }
@@ -75,7 +75,7 @@ fn put_choice<K: Sink>(bits: u64, sink: &mut K) -> Result<(), Failed>
     put_all(sink, b"}")
 }
 
-/// Puts the options, ascending, with commas between.
+/// Writes the options, ascending, with commas between.
 fn put_options<K: Sink>(bits: u64, sink: &mut K) -> Result<(), Failed>
     ensures shown { Sends (K.contents sink.old) (K.contents sink.new) result (listed (options_below 64 bits)) }
     ensures calm { OnOk result (K.failures sink.new ≡ K.failures sink.old) }
@@ -91,7 +91,7 @@ fn put_options<K: Sink>(bits: u64, sink: &mut K) -> Result<(), Failed>
     Ok(())
 }
 
-/// Puts an option, after a comma unless it is the first.
+/// Writes an option, after a comma unless it is the first.
 fn put_option<K: Sink>(option: u32, is_first: bool, sink: &mut K) -> Result<(), Failed>
     ensures shown { Sends (K.contents sink.old) (K.contents sink.new) result
         (if is_first then decimal option else codes "," ++ decimal option) }

@@ -1,7 +1,7 @@
 //! What a cell shows.
 use crate::label::Label;
 
-/// Why a cell has no number.
+/// Why a cell shows no number.
 #[derive(Clone, Copy, PartialEq, Eq, Debug)]
 pub enum Fault {
     /// A division by zero.
@@ -10,13 +10,13 @@ pub enum Fault {
     Num,
     /// A text where a number is wanted.
     Value,
-    /// A chain of references that holds a cell twice.
+    /// References that lead into a cycle.
     Cycle,
 }
 
 /// The value that a cell shows.
 ///
-/// A value is `Copy` and takes no memory: a label lies in the value itself, and a choice is 64 bits.
+/// A value is `Copy` and takes no memory on the heap: a label lies in the value itself, and a choice is 64 bits.
 #[derive(Clone, Copy, PartialEq, Eq)]
 pub enum Value {
     /// Nothing.

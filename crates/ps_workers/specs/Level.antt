@@ -14,7 +14,7 @@ use Rattle.ps_shown.specs.Kept.{value_of as value_kept}
 abbrev pub HaveFormulas : (ℕ → Option Tree) → List ℕ → Type 0
 HaveFormulas formulas cells = All (λ c. IsSome (formulas c)) cells
 
--- the value of a formula; none is as an empty cell
+-- the value of a cell's formula; a cell without a formula counts as empty
 abbrev pub formula_value : Assignment → Option Tree → Value
 formula_value v None = Empty
 formula_value v (Some t) = ev t v
@@ -23,11 +23,11 @@ formula_value v (Some t) = ev t v
 abbrev pub values_of : (ℕ → Option Tree) → Assignment → List ℕ → List Value
 values_of formulas v cells = map (λ c. formula_value v (formulas c)) cells
 
--- the values that are kept
+-- the values of stored cells
 abbrev pub kept_values : List Kept → List Value
 kept_values out = map value_kept out
 
--- work for `count` workers, numbered from `first` on: they have a cell each at least
+-- the cells are work for `count` workers, numbered from `first` on: at least one cell for each, and `out` is as long
 abbrev pub IsWorkFor : (ℕ → Option Tree) → ℕ → ℕ → List ℕ → List Kept → Type 0
 IsWorkFor formulas first count cells out =
     (0 < count)
@@ -36,6 +36,6 @@ IsWorkFor formulas first count cells out =
     × HaveFormulas formulas cells
     × (length out ≡ length cells)
 
--- the values of the cells are there, and each was counted
+-- `out` has the values of the cells, and `ticks` counts each evaluation
 abbrev pub IsDone : (ℕ → Option Tree) → Assignment → List ℕ → List Kept → ℕ → Type 0
 IsDone formulas v cells out ticks = (kept_values out ≡ values_of formulas v cells) × (ticks ≡ length cells)

@@ -1,4 +1,4 @@
-//! A level, divided among workers.
+//! Divides a level (cells whose formulas don't refer to one another) among workers.
 
 ghost use Rattle.std.specs.Prelude.{◌≡◌, ◌+◌, ◌-◌, ◌*◌, ◌/◌, ◌%◌, ◌<◌, ◌≤◌, ◌∷◌, [], min, length};
 ghost use Rattle.std.specs.Thread.{IsSync};
@@ -18,7 +18,7 @@ use std::marker::Brand;
 use std::sync::ledger::{Blank, Ledger};
 use std::thread::{Threads, join_mut};
 
-/// The stored form of a formula's value: its number, or the fault in its place.
+/// The stored form of a formula's value: its number or its fault.
 fn kept_of(number: Result<i64, Fault>) -> Kept
     ensures { value_kept result ≡ shown_as number }
 {
@@ -28,8 +28,8 @@ fn kept_of(number: Result<i64, Fault>) -> Kept
     }
 }
 
-/// How many of the cells the first `low` of `count` workers get. If the cells don't divide evenly, the first workers
-/// have one cell more than the others.
+/// How many of `cells` cells the first `low` of `count` workers get together. If the cells don't divide evenly, the
+/// first workers have one cell more than the others.
 fn share(cells: usize, count: usize, low: usize) -> usize
     requires count { 0 < count }
     requires low { low ≤ count }
@@ -51,7 +51,7 @@ struct Task<'a, R, F, K, G> {
 }
 
 impl<R: Threads + Sync, F: Formulas + Sync, K: Look + Sync, G: Gate> Task<'_, R, F, K, G> {
-    /// Evaluates the cells of one worker, one after the other, and counts them by a meter of its own.
+    /// Evaluates the cells of one worker in order, and counts them with a new meter.
     #[inline(always)]
     fn by_one(&self, worker: usize, cells: &[Cell], out: &mut [Kept]) -> Counted
         requires { IsWorkFor (F.formula_at self.now.formulas.now) worker 1 cells.now out.old }
@@ -60,7 +60,7 @@ impl<R: Threads + Sync, F: Formulas + Sync, K: Look + Sync, G: Gate> Task<'_, R,
         self.by_one_counted::<Brand>(Blank::new(1), worker, cells, out)
     }
 
-    /// Evaluates the cells of one worker, and counts them by a meter over `blank`.
+    /// As `by_one`, with a meter that `blank` starts.
     #[inline(always)]
     fn by_one_counted<L: Ledger>(
         &self,
@@ -87,8 +87,8 @@ impl<R: Threads + Sync, F: Formulas + Sync, K: Look + Sync, G: Gate> Task<'_, R,
         meter.finish(cells.len() as u64)
     }
 
-    /// Evaluates the cells of `count` workers, numbered from `first` on. One half of the workers runs in this thread,
-    /// and the other half in a thread of its own.
+    /// Evaluates the cells of `count` workers, numbered from `first` on. It starts a thread for the second half of the
+    /// workers, and runs the first half in this thread. Each half is divided again, down to single workers.
     #[cycle(halves)]
     fn by_several(&self, first: usize, count: usize, cells: &[Cell], out: &mut [Kept]) -> Counted
         requires { IsWorkFor (F.formula_at self.now.formulas.now) first count cells.now out.old }
@@ -120,10 +120,10 @@ impl<R: Threads + Sync, F: Formulas + Sync, K: Look + Sync, G: Gate> Task<'_, R,
     }
 }
 
-/// Evaluates the formula of a cell, and returns its value where each cell shows what `look` says.
+/// Returns the value of a cell's formula, where each cell shows what `look` says.
 ///
-/// It does the same as a level of that one cell by one worker: the meter gets one tick more, and the gate is passed
-/// once, as worker 0. It needs no place for the value, starts no thread, and takes no memory.
+/// It does what `eval_level` does for this one cell: it calls the gate once, as worker 0, and the meter counts one
+/// evaluation. It starts no thread and takes no memory.
 ///
 /// Cost: the evaluation.
 #[inline(always)]
@@ -141,7 +141,7 @@ pub fn eval_cell<F: Formulas, K: Look, G: Gate, L: Ledger>(
     eval_as(0, cell, formulas, look, gate, meter)
 }
 
-/// Evaluates the formula of a cell, once this worker has passed the gate.
+/// As `eval_cell`, for any worker: calls the gate as that worker, and then evaluates the cell's formula.
 #[inline(always)]
 fn eval_as<F: Formulas, K: Look, G: Gate, L: Ledger>(
     worker: usize,
@@ -165,14 +165,13 @@ fn eval_as<F: Formulas, K: Look, G: Gate, L: Ledger>(
 
 /// Evaluates the formula of each cell, by at most `workers` workers.
 ///
-/// Place i of `out` then has the value of cell i's formula where each cell shows what `look` says. The meter gets one
-/// tick more for each cell, whatever the number of workers. Each worker has cells of its own, one after the other. The
-/// caller runs a worker whose thread can't be started, and one worker starts no thread. It takes no memory except for
-/// the threads.
+/// `out[i]` gets the value of the formula of `cells[i]`, where each cell shows what `look` says. The meter counts one
+/// evaluation for each cell, whatever the number of workers. Each worker evaluates a consecutive part of `cells`, in
+/// order; the first one runs in the calling thread. If a thread can't be started, the thread that would have started it
+/// evaluates that part too. It takes no memory except for the threads.
 ///
-/// It has eight parameters, since what is looked at, the places, the workers and the count have different owners.
-///
-/// Cost: the evaluations, divided evenly, and the start of a thread for each worker but one.
+/// Cost: the evaluations, divided evenly, and the start of a thread for each worker but the first.
+// It has eight parameters, since they have different owners.
 pub fn eval_level<R: Threads + Sync, F: Formulas + Sync, K: Look + Sync, G: Gate, L: Ledger>(
     rt: &R,
     cells: &[Cell],

@@ -17,7 +17,7 @@ use Rattle.ps_formula.specs.Grammar.{accepts, level_of, takes_ranges}
 use Rattle.ps_formula.specs.Tree.{Tree, Item, number, reference, signed, joined, group, call, expression, range}
 use Rattle.ps_formula.specs.Tree.{no_items, in_row}
 
--- what a refusal says of what was there to read: nothing where it was out of memory
+-- what a refusal says about the tokens: `Formula` says that they can't be read, `Memory` says nothing
 abbrev pub Refuses : {Y : Type 0} → Refusal → Option Y → Type 0
 Refuses Formula read = read ≡ None
 Refuses Memory read = Unit {0}

@@ -1,4 +1,4 @@
--- What a list of counts holds.
+-- What a list of counts stores, as the entries that contracts see.
 use Rattle.std.specs.Prelude.{ℕ, List, [], ◌∷◌}
 use Rattle.std.specs.Arc.{arc_value}
 use Rattle.ps_lattice.specs.declared.tally.Count.{Count}

@@ -1,4 +1,4 @@
--- What a register holds.
+-- What a register stores, as the assignment that contracts see.
 use Rattle.std.specs.Prelude.{Option, Some, None}
 use Rattle.ps_lattice.specs.declared.register.Assignment.{Assignment}
 use Rattle.ps_lattice.specs.declared.register.Held.{Held}

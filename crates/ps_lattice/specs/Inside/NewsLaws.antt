@@ -1,4 +1,4 @@
--- What is new of one value.
+-- Laws of what one value has new for another one.
 use Rattle.std.specs.Prelude.{◌≡◌, ℕ, max, Bool, true, false, ◌&&◌, ◌||◌, nat_le, if◌then◌else◌}
 use Rattle.std.specs.Prelude.{Option, Some, None}
 use Rattle.std.proofs.Common.{refl, sym, ap, ◌∙◌, arith, true≢false, unwrap_or}
@@ -13,7 +13,7 @@ use Rattle.ps_lattice.specs.Inside.News.{newer_mark, newer_total, newer_count}
 some_is : {X : Type 0} (a b : X) → Some a ≡ Some b → a ≡ b
 some_is a b h = ap (λ o. unwrap_or o a) h
 
--- where there is no value, all of a value is new
+-- to a missing value all of a value is new
 pub all_new : {X : Type 0} (f : X → X → X) → ((x : X) → f x x ≡ x) → (y : X)
     → IsNewsOf (both_of f) None (Some y) (Some y)
 all_new f idem y = record {
@@ -79,7 +79,7 @@ count_covers x y h =
     both _ _ (covers x.added y.added (ap (λ (c : Count). c.added) h))
     (covers x.subtracted y.subtracted (ap (λ (c : Count). c.subtracted) h))
 
--- the new counts: each that isn't above the old one is 0
+-- the new counts, each replaced by 0 if it isn't above the old one
 abbrev above : Count → Count → Count
 above x y = record { added = newer_total x.added y.added; subtracted = newer_total x.subtracted y.subtracted }
 

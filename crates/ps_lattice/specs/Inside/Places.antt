@@ -1,10 +1,11 @@
--- Places in lists of entries whose keys rise.
+-- Positions in lists of entries whose keys rise.
 use Rattle.std.specs.Prelude.{◌≡◌, ℕ, ◌<◌, ◌≤◌, Bool, true, false, List, length, get_or}
 use Rattle.std.specs.declared.cmp.Ordering.{Ordering}
 use Rattle.std.specs.declared.cmp.Ordering.TheVariants.{Less, Equal, Greater}
 use Rattle.ps_lattice.specs.declared.choice.Pair.{Pair}
 
--- the keys between `from` and `at` are smaller; that at `at` is the key if it is there, and a greater one if not
+-- the keys from `from` to before `at` are less than `key`; `key` is at `at` if `there` is true, and if not, a greater
+-- key or the end of the list is there
 pub record IsPlace {K X : Type 0} (R : K → K → Ordering) (es : List (K × X)) (from : ℕ) (key : K) (at : ℕ)
     (there : Bool) : Type 0 where
   pub low : from ≤ at
@@ -14,7 +15,7 @@ pub record IsPlace {K X : Type 0} (R : K → K → Ordering) (es : List (K × X)
   pub here : there ≡ true → (d : K × X) → R (get_or es at d).0 key ≡ Equal
   pub after : there ≡ false → (d : K × X) → at < length es → R (get_or es at d).0 key ≡ Greater
 
--- from `from` on there is a pair, and all pairs before `end` have its option
+-- the pairs from `from` to before `end`, at least one, have the same option
 pub record IsStretch (es : List (Pair × Bool)) (from end : ℕ) : Type 0 where
   pub low : from < end
   pub high : end ≤ length es

@@ -1,4 +1,4 @@
--- What a shared list holds, and the entries of two lists joined.
+-- The items of a shared list, and the entries of the join of two lists.
 use Rattle.std.specs.Prelude.{List, [], ◌∷◌}
 use Rattle.std.specs.Arc.{arc_value}
 use Rattle.std.specs.declared.cmp.Ordering.{Ordering}

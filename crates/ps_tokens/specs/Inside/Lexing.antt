@@ -21,7 +21,7 @@ use Rattle.ps_tokens.specs.declared.token.Token.{Token}
 use Rattle.ps_tokens.specs.declared.token.Token.TheVariants.{Numeral, Reference, Range, Name, Symbol, Open, Close}
 use Rattle.ps_tokens.specs.declared.token.Token.TheVariants.{Separator}
 
--- the text after the byte b, where the text begins with it
+-- the text after its first byte, if that is b
 unfoldable pub after : ℕ → List ℕ → Option (List ℕ)
 after b s = if slice_index s 0 == b then Some (drop 1 s) else None
 
@@ -40,7 +40,7 @@ capitals_at s = prefix_len is_ascii_uppercase (take 2 s)
 abbrev pub letters_at : List ℕ → ℕ
 letters_at s = prefix_len is_ascii_alphabetic s
 
--- the number of the digits, where it is not too large
+-- the number that the digits stand for, if it is below 2 ^ 63
 unfoldable pub number_in : List ℕ → Option ℕ
 number_in w = if nat_lt (digits_value 10 w) (2 ^ 63) then Some (digits_value 10 w) else None
 
@@ -61,7 +61,7 @@ corner_at s =
     let u = unmarked (drop (capitals_at t) t) in
     option_map (λ c. (c, drop (digits_at u) u)) (cell_in (take (capitals_at t) t) (take (digits_at u) u))
 
--- the range whose first corner was read
+-- the range at the front, after its `[.` and its first corner were read
 unfoldable pub range_at : ℕ → List ℕ → Option (Token × List ℕ)
 range_at c s =
     option_and_then
@@ -74,11 +74,11 @@ range_at c s =
     (after 46 t))
     (after 58 s)
 
--- the reference whose corner was read and whose bracket is closed
+-- the reference at the front, after its `[.` and its corner were read
 unfoldable pub reference_at : ℕ → List ℕ → Option (Token × List ℕ)
 reference_at c s = option_map (λ t. (Reference c, t)) (after 93 s)
 
--- the reference or the range whose bracket was opened
+-- the reference or the range at the front, after its `[` was read
 unfoldable pub bracketed_at : List ℕ → Option (Token × List ℕ)
 bracketed_at s =
     option_and_then
@@ -90,15 +90,15 @@ bracketed_at s =
 unfoldable pub numeral_at : List ℕ → Option (Token × List ℕ)
 numeral_at s = option_map (λ n. (Numeral (pos n), drop (digits_at s) s)) (number_in (take (digits_at s) s))
 
--- the function of a name
+-- the function with this name, in any mix of cases
 unfoldable pub function_of : List ℕ → Option Function
 function_of w = find (λ f. str_eq_ignore_ascii_case w (function_name f)) FUNCTIONS
 
--- the name at the front
+-- the name of a function at the front
 unfoldable pub name_at : List ℕ → Option (Token × List ℕ)
 name_at s = option_map (λ f. (Name f, drop (letters_at s) s)) (function_of (take (letters_at s) s))
 
--- the operator of two bytes
+-- the operator that is written with these two bytes
 unfoldable pub operator_of_two : ℕ → ℕ → Option Operator
 operator_of_two a b =
     if a == 60 && b == 62 then Some NotEqual
@@ -106,7 +106,7 @@ operator_of_two a b =
     else (if a == 62 && b == 61 then Some GreaterOrEqual
     else None))
 
--- the token of one byte
+-- the operator, parenthesis or separator that is written with this byte
 unfoldable pub token_of_one : ℕ → Option Token
 token_of_one a =
     if a == 43 then Some (Symbol Plus)
@@ -120,7 +120,7 @@ token_of_one a =
     else (if a == 59 then Some Separator
     else None))))))))
 
--- the sign at the front; two bytes are read as one operator where they are one
+-- the sign at the front; an operator of two bytes is preferred
 unfoldable pub sign_at : List ℕ → Option (Token × List ℕ)
 sign_at s =
     option_or

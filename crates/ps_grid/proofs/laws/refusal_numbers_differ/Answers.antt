@@ -1,4 +1,4 @@
--- The refusal of a number: numbers are one to one.
+-- The refusal of each number, by which no two refusals have one number.
 use Rattle.std.proofs.Common.{◌≡◌, ◌∙◌, ℕ, ◌==◌, ap, refl, sym, if◌then◌else◌}
 use Rattle.ps_grid.specs.declared.refusal.Refusal.{Refusal}
 use Rattle.ps_grid.specs.declared.refusal.Refusal.TheVariants.{Cell, Text, Formula, TooLong, NotTally, NotChoice}
