@@ -1,4 +1,5 @@
-//! Patches of a sheet's changes. A call that is out of memory is made again, and a reader sees no more than before.
+//! Published copies and patches, while an allocation may fail. After a call of the writer that is out of memory, a
+//! reader sees no more than before, and the same call then works.
 
 ghost use Rattle.std.specs.Prelude.{◌≡◌, ◌++◌, ◌∷◌, [], map, IfOk, OnOk, OnErr};
 ghost use Rattle.ps_shown.specs.Kept.{value_of};
@@ -32,10 +33,10 @@ enum Way {
 /// What a reader sees of A1, with the version.
 type Sight = (u64, Value);
 
-/// An entry of A1, and what a reader then sees, before and after all that waits is shown.
+/// An entry for A1, and what a reader then sees: before and after the writer shows all that waits.
 type Row = (&'static str, [Sight; 2]);
 
-/// What a sheet keeps of a value.
+/// The form in which a sheet stores a value.
 fn keep(alloc: Global, value: Value) -> Result<Kept, Refusal>
     ensures { IfOk result (λ k. value_of k ≡ value) }
 {
@@ -48,7 +49,7 @@ fn keep(alloc: Global, value: Value) -> Result<Kept, Refusal>
     }
 }
 
-/// The cells with what a sheet keeps of their values.
+/// The cells with their values in the form in which a sheet stores them.
 fn keep_all(alloc: Global, changes: &[(Cell, Value)]) -> Result<Vec<(Cell, Kept)>, Refusal>
     ensures { IfOk result (λ k. map valued k.items ≡ changes.now) }
 {
@@ -60,7 +61,7 @@ fn keep_all(alloc: Global, changes: &[(Cell, Value)]) -> Result<Vec<(Cell, Kept)
     Ok(kept)
 }
 
-/// The patch of a fresh change, which has a delta that wasn't below the state.
+/// The patch of a prepared change, whose delta adds something new to the state.
 fn patch_of<'a>(
     rt: &impl Abort,
     alloc: Global,
@@ -74,22 +75,22 @@ fn patch_of<'a>(
     Ok(Patch::new(prepared.report().version, prepared.delta(), changes, 1))
 }
 
-/// What a reader sees.
+/// Enters, reads the version and A1, and leaves.
 fn read<L: Named>(rt: &impl Abort, reader: FaceReader<L>) -> (FaceReader<L>, Sight) {
     let seen = reader.enter().ok().expect(rt, "a writer");
     let found = (seen.version(), seen.at(cell(rt, "A1")));
     (seen.leave(), found)
 }
 
-/// A reader sees what is due.
+/// Asserts that a reader sees what is due.
 fn check_sight<L: Named>(rt: &impl Abort, reader: FaceReader<L>, due: &Sight) -> FaceReader<L> {
     let (reader, sight) = read(rt, reader);
     assert!(rt; sight == *due);
     reader
 }
 
-/// Appends and publishes, or posts, the patch of a change that is prepared over the published history. A reader sees
-/// what it saw before until the patch is published.
+/// Publishes the patch of a prepared change in the given way. Before `publish` shows an appended patch, asserts that a
+/// reader sees what it saw before.
 fn tell<L: Named, R: Wait + Drop>(
     rt: &impl Abort,
     alloc: Global,
@@ -122,8 +123,8 @@ fn tell<L: Named, R: Wait + Drop>(
     }
 }
 
-/// Does the same as `tell`, and once more if the first call is refused. That refusal is `Memory`, and a reader then
-/// sees what it saw before.
+/// Publishes a patch as `tell` does, and once more if the first call is refused. Asserts that the refusal is `Memory`,
+/// and that a reader then sees what it saw before.
 fn tell_again<L: Named, R: Wait + Drop>(
     rt: &impl Abort,
     alloc: Global,
@@ -151,7 +152,7 @@ fn tell_again<L: Named, R: Wait + Drop>(
     }
 }
 
-/// The change that makes an entry in A1. It is read again where the first time is out of memory.
+/// The edit that enters `entry` in A1. Reads the entry again if the first time is out of memory.
 fn change_to(rt: &impl Abort, alloc: Global, entry: &str) -> Change {
     let content = match read_entry(alloc, entry.as_bytes()) {
         Ok(content) => content,
@@ -162,7 +163,7 @@ fn change_to(rt: &impl Abort, alloc: Global, entry: &str) -> Change {
     Change::Edit(Edit::Set(cell(rt, "A1"), content))
 }
 
-/// An entry in A1, prepared. It is prepared again where the first time is out of memory.
+/// Prepares the edit that enters `entry` in A1. Prepares it again if the first time is out of memory.
 fn entered<T: Abort + Threads + Sync>(rt: &T, alloc: Global, sheet: Sheet, entry: &str) -> Prepared
     ensures prepared { IsPrepared result }
     ensures history { result.history ≡ sheet.history }
@@ -176,7 +177,7 @@ fn entered<T: Abort + Threads + Sync>(rt: &T, alloc: Global, sheet: Sheet, entry
     }
 }
 
-/// A reader sees what is due, before and after all that waits is shown.
+/// Asserts that a reader sees what is due, before and after the writer shows all that waits.
 fn check_seen<L: Named, R: Wait + Drop>(
     rt: &impl Abort,
     writer: &mut FaceWriter<L, R>,
@@ -191,7 +192,7 @@ fn check_seen<L: Named, R: Wait + Drop>(
     check_sight(rt, reader, &due[1])
 }
 
-/// Makes an entry in A1, and looks at it through a reader.
+/// Enters the row's entry in A1, publishes its patch in the given way, and checks what a reader sees.
 fn go_on<L: Named, R: Wait + Drop, T: Abort + Threads + Sync>(
     rt: &T,
     alloc: Global,
@@ -230,7 +231,7 @@ fn open<'a, L: Named, T: Abort + Wait + Sync>(
     Ok((writer, readers.pop().expect(rt, "a reader")))
 }
 
-/// Makes the entries of two rows, and drops the sheet with its copies.
+/// Enters, publishes and checks one row after the other, and then drops the sheet and its copies.
 fn go_through<L: Named, R: Wait + Drop, T: Abort + Threads + Sync>(
     rt: &T,
     alloc: Global,
@@ -248,7 +249,7 @@ fn go_through<L: Named, R: Wait + Drop, T: Abort + Threads + Sync>(
     drop(writer);
 }
 
-/// Does so at an empty sheet, of this name.
+/// Enters, publishes and checks the rows at an empty sheet, whose copies have the name `L`.
 fn try_on<L: Named, T: Abort + Threads + Wait + Sync>(
     rt: &T,
     alloc: Global,
@@ -272,7 +273,7 @@ fn try_on<L: Named, T: Abort + Threads + Wait + Sync>(
     }
 }
 
-/// Does so with a new book.
+/// Enters, publishes and checks the rows at an empty sheet, whose copies have a new name.
 fn try_anew<T: Abort + Threads + Wait + Sync>(
     rt: &T,
     alloc: Global,
@@ -283,7 +284,8 @@ fn try_anew<T: Abort + Threads + Wait + Sync>(
     try_on::<Brand, T>(rt, alloc, opened, way, rows)
 }
 
-/// Does so, and once more if the first run is out of memory before a call under test.
+/// Enters, publishes and checks the rows at an empty sheet. Does so once more if the first run is out of memory before
+/// a call under test.
 fn check<T: Abort + Threads + Wait + Sync>(rt: &T, alloc: Global, way: Way, rows: &[Row; 2]) {
     let mut ended = try_anew(rt, alloc, NewBook::new(), way, rows);
     if ended == Err(Refusal::Memory) {

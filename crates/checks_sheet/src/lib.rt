@@ -1,6 +1,6 @@
 //! Tests of sheets, CSV tables, published copies and worlds, by public items alone.
 //!
-//! They are a crate of their own, as a crate with tests is proved twice. No other crate uses it.
+//! They are a crate of their own, since a crate with tests is proved twice. No other crate uses it.
 #![tactic(auto)]
 
 #[cfg(test)]

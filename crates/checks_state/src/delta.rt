@@ -1,6 +1,6 @@
-//! Deltas and grids, made from lines.
+//! Tests of deltas and grids, which are made from lines.
 //!
-//! Small functions with few owned values each work out what a test asserts; those are quick to prove.
+//! A test asserts what small functions work out. Small functions with few owned values are quick to prove.
 
 mod refused;
 
@@ -19,7 +19,7 @@ fn grid_of(alloc: Global, lines: &str) -> Result<Grid, Refusal> {
     Ok(grid)
 }
 
-// Whether a delta touches D1 and E1 of a grid alone.
+// Whether a delta touches exactly D1 and E1 of a grid, which are cells 3 and 4.
 fn touches_two(alloc: Global, grid: &Grid, delta: &Delta) -> Result<bool, Refusal> {
     let mut touched = Touched::new(alloc)?;
     grid.touched(delta, &mut touched);
@@ -36,13 +36,15 @@ fn hidden_parts(alloc: Global) -> Result<bool, Refusal> {
     touches_two(alloc, &grid, &delta)
 }
 
-/// A join touches the cells that it would change: a counter that isn't shown counts, and what is covered doesn't.
+/// A delta touches the cells whose state it changes: also a counter that its cell doesn't show, but no cell for which
+/// the delta has nothing new.
 #[test]
 fn hidden_parts_are_touched(rt: HostRuntime) {
     assert!(rt; hidden_parts(rt.alloc()) == Ok(true));
 }
 
-// Joins a state into another one, and says whether it is below that one only then, by the trait alone.
+// Joins `other` into `state`. Returns whether `other` is below `state` (adds nothing new to it) only after that. Uses
+// only the trait `Join`.
 fn is_joined<J: Join>(alloc: Global, state: &mut J, other: &J) -> Result<bool, Refusal> {
     let was_below = other.below(state);
     state.join(alloc, other)?;
@@ -77,7 +79,7 @@ const OTHER_HALF: &str = r#"[["A1",[1,1,"4"],[],[]]]
 // The join of the six.
 const SIX_JOINED: &[u8] = br#"[["A1",[1,1,"4"],[[1,5,0],[2,9,0]],[]],["B1",null,[],[[7,2,1,1]]]]"#;
 
-/// Two grids join as their deltas do, three of six in each grid.
+/// The join of two grids, each with three of six deltas, has all that the join of the six deltas has.
 #[test]
 fn two_grids_join_cell_by_cell(rt: HostRuntime) {
     assert!(rt; grids_join(rt.alloc()) == Ok(true));

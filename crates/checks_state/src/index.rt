@@ -1,6 +1,6 @@
-//! Formulas put in and taken out, and the cells that then refer to a cell.
+//! Tests of an index: after formulas are put in and taken out, which cells refer to a cell.
 //!
-//! Small functions with few owned values each work out what a test asserts; those are quick to prove.
+//! A test asserts what small functions work out. Small functions with few owned values are quick to prove.
 
 ghost use Rattle.std.specs.Prelude.{IfOk, OnOk, Some};
 ghost use Rattle.std.specs.Option.{option_copied};
@@ -11,12 +11,12 @@ use ps_grid::{CELLS, COLUMNS, Cell, Refusal};
 use ps_index::{Index, Spans};
 use std::alloc::Global;
 
-/// The cell that a name names.
+/// The cell of this name.
 fn cell(name: &str) -> Result<Cell, Refusal> {
     Cell::read(name.as_bytes()).ok_or(Refusal::Cell)
 }
 
-/// Whether exactly the cells of these names refer to a cell, in this order.
+/// Whether `index` lists exactly the cells of these names, in this order, as those that refer to the cell named `to`.
 fn refer_to(index: &Index, to: &str, names: &str) -> bool {
     match Cell::read(to.as_bytes()) {
         Some(to) => are_readers(index, to, names),
@@ -24,7 +24,7 @@ fn refer_to(index: &Index, to: &str, names: &str) -> bool {
     }
 }
 
-/// The same of a cell.
+/// Whether `index` lists exactly the cells of these names, in this order, as those that refer to `to`.
 fn are_readers(index: &Index, to: Cell, names: &str) -> bool {
     let mut names = names.split_ascii_whitespace();
     for found in index.dependents(to) {
@@ -36,7 +36,7 @@ fn are_readers(index: &Index, to: Cell, names: &str) -> bool {
     names.next().is_none()
 }
 
-/// Whether the cells that refer to the first of each row are exactly the others, in this order.
+/// Whether, for each row, the cells that refer to its first cell are exactly its other cells, in this order.
 fn all_refer(index: &Index, rows: &[(&str, &str)]) -> bool {
     for (to, names) in rows {
         if !refer_to(index, to, names) {
@@ -46,7 +46,7 @@ fn all_refer(index: &Index, rows: &[(&str, &str)]) -> bool {
     true
 }
 
-/// The index with a formula put in for each cell that a line names.
+/// An index of formulas. Each line is the name of a cell, a space, and the cell's formula.
 fn index_of(alloc: Global, lines: &str) -> Result<Index, Refusal>
     ensures { IfOk result (λ i. (forms : Puts) × Stands i forms) }
 {
@@ -55,7 +55,7 @@ fn index_of(alloc: Global, lines: &str) -> Result<Index, Refusal>
     Ok(index)
 }
 
-/// Puts in a formula for each cell that a line names, beside those of the index.
+/// Puts formulas into an index. Each line is the name of a cell, a space, and the cell's formula.
 fn put(alloc: Global, index: &mut Index, lines: &str) -> Result<(), Refusal>
     requires { (forms : Puts) × Stands index.old forms }
     ensures { OnOk result ((forms : Puts) × Stands index.new forms) }
@@ -68,7 +68,7 @@ fn put(alloc: Global, index: &mut Index, lines: &str) -> Result<(), Refusal>
     Ok(())
 }
 
-/// Puts one more formula in.
+/// Puts the formula of a cell into an index.
 fn put_in(index: &mut Index, cell: Cell, formula: &Formula) -> Result<(), Refusal>
     requires { (forms : Puts) × Stands index.old forms }
     ensures { OnOk result ((forms : Puts) × Stands index.new forms) }
@@ -76,7 +76,7 @@ fn put_in(index: &mut Index, cell: Cell, formula: &Formula) -> Result<(), Refusa
     index.set(cell, None, Some(formula))
 }
 
-/// Whether the same cells refer to a cell in both.
+/// Whether both indices list the same cells, in the same order, as those that refer to a cell.
 fn refer_alike(index: &Index, twin: &Index, to: Cell) -> bool {
     let mut others = twin.dependents(to);
     for found in index.dependents(to) {
@@ -87,7 +87,7 @@ fn refer_alike(index: &Index, twin: &Index, to: Cell) -> bool {
     others.next().is_none()
 }
 
-/// Whether the same spans stand in both lists, in the same order.
+/// Whether both lists have the same spans, in the same order.
 fn are_same(spans: &Spans, twin: &Spans) -> bool {
     if spans.len() != twin.len() {
         return false;
@@ -100,7 +100,7 @@ fn are_same(spans: &Spans, twin: &Spans) -> bool {
     true
 }
 
-/// Whether the same cells refer to each cell in both, by the same spans of each column.
+/// Whether both indices list the same cells for each cell, and have the same spans for each column.
 fn are_alike(index: &Index, twin: &Index) -> bool {
     for column in 0..COLUMNS as u8 {
         if !are_same(index.spans(column), twin.spans(column)) {
@@ -115,8 +115,8 @@ fn are_alike(index: &Index, twin: &Index) -> bool {
     true
 }
 
-/// Exchanges a formula for another, or for none, and calls again if the first call is refused. Returns whether that
-/// refusal was `Memory` and left all as in the twin.
+/// Exchanges the formula `old` of a cell, or none, for `new`. Calls `Index::set` again if the first call is refused.
+/// Returns whether that refusal, if there was one, was `Memory` and left the index like `twin`.
 fn set_again(
     index: &mut Index,
     twin: &Index,
@@ -138,10 +138,10 @@ fn set_again(
     }
 }
 
-/// Other formulas, beside which one is put in and exchanged.
+/// The formulas of the other cells, while that of A9 is put in and exchanged.
 const BESIDE: &str = "A1 =SUM([.B1:.B2])\nA2 =[.CZ2]\nB1 =SUM([.A1:.CZ1024])";
 
-/// What refers to cells once a formula is put in, and once it is exchanged.
+/// Cells, each with the cells that refer to it once the old formula of A9 is put in.
 static PUT: [(&str, &str); 5] = [
     ("A1024", "B1 A9"),
     ("B1", "A1 B1 A9"),
@@ -150,6 +150,7 @@ static PUT: [(&str, &str); 5] = [
     ("CZ2", "B1 A2"),
 ];
 
+/// Cells, each with the cells that refer to it once A9 has the new formula.
 static EXCHANGED: [(&str, &str); 7] = [
     ("A1024", "B1"),
     ("B1", "A1 B1"),
@@ -160,7 +161,8 @@ static EXCHANGED: [(&str, &str); 7] = [
     ("CZ10", "B1 A9"),
 ];
 
-/// Whether refused calls left all as it was, and the next ones put a formula in and exchanged it for another.
+/// Whether refused calls left the index as it was, and the next calls put the formula `old` in and exchanged it for
+/// `new`.
 fn refuse_set(alloc: Global, cell: Cell, old: &Formula, new: &Formula) -> Result<bool, Refusal> {
     let mut index = index_of(alloc, BESIDE)?;
     let mut twin = index_of(alloc, BESIDE)?;
@@ -172,15 +174,15 @@ fn refuse_set(alloc: Global, cell: Cell, old: &Formula, new: &Formula) -> Result
     Ok(is_put && before && is_exchanged && after)
 }
 
-/// The same for a formula of A9 and another one.
+/// Does what `refuse_set` does, for two formulas of A9.
 fn refuse_sets(alloc: Global) -> Result<bool, Refusal> {
     let old = Formula::read(alloc, b"=SUM([.B1:.B9])+[.A1024]")?;
     let new = Formula::read(alloc, b"=SUM([.B3:.CZ10])")?;
     refuse_set(alloc, cell("A9")?, &old, &new)
 }
 
-/// After a refused `set`, with no old formula and with one, the cells that refer to each cell are as before, and the
-/// next call puts the new formula in.
+/// After a refused `Index::set`, with an old formula and without one, the index is as before. The next call puts the
+/// new formula in.
 #[test]
 fn refused_set(rt: HostRuntime) {
     let mut found = refuse_sets(rt.alloc());

@@ -1,15 +1,16 @@
-//! A line of a delta, where an allocation fails.
+//! Reading and writing the line of a delta, while an allocation may fail.
 
 use ps_delta::Delta;
 use ps_grid::Refusal;
 use ps_wire::{decode, encode};
 use std::alloc::Global;
 
-/// A line of a cell with all three parts, and of a formula, whose content takes memory of its own.
+/// The line of a delta with two cells: A1 has a register, a counter and a set, and B1 has a formula, which takes memory
+/// of its own.
 const FULL_LINE: &[u8] =
     br#"[["A1",[1,1,"@choice"],[[1,5,0]],[[7,1,1,1],[7,2,1,0]]],["B1",[2,2,"=-[.A1]"],[],[]]]"#;
 
-/// The delta of the line; calls again if the first call is out of memory.
+/// The delta of a line. Calls `decode` again if the first call is out of memory.
 fn decode_again(alloc: Global, bytes: &[u8]) -> Result<Delta, Refusal> {
     match decode(alloc, bytes) {
         Err(Refusal::Memory) => decode(alloc, bytes),
@@ -17,8 +18,8 @@ fn decode_again(alloc: Global, bytes: &[u8]) -> Result<Delta, Refusal> {
     }
 }
 
-/// Appends the text of the delta, and calls again if the first call is refused. Returns whether that refusal was
-/// `Memory` and left the line as before.
+/// Appends the text of a delta to a line, and calls `encode` again if the first call is refused. Returns whether that
+/// refusal, if there was one, was `Memory` and left the line as `before`.
 fn encode_again(
     alloc: Global,
     delta: &Delta,
@@ -35,7 +36,8 @@ fn encode_again(
     }
 }
 
-/// Whether the full line is read and comes twice, and a refused call changed nothing.
+/// Whether `FULL_LINE` is read, and its delta then written twice gives the line twice, and refused calls changed
+/// nothing.
 fn refuse_both(alloc: Global) -> Result<bool, Refusal> {
     let delta = decode_again(alloc, FULL_LINE)?;
     let mut line = Vec::new(alloc);

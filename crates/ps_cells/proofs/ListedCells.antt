@@ -24,7 +24,7 @@ In-pushed_cases xs x c h =
     ⊎_elim (λ i. inl i) (λ i. inr (In-one c x i))
     (or_cases (list_any (eqb c) xs) (list_any (eqb c) (x ∷ [])) (sym (list_any-append (eqb c) xs (x ∷ [])) ∙ h))
 
--- as many numbers have a fact as have one that says the same
+-- as many numbers have a property as have an equivalent one
 pub count_same : (P Q : ℕ → Type 0) (n : ℕ) → IsCount P n → ((c : ℕ) → P c → Q c) → ((c : ℕ) → Q c → P c) → IsCount Q n
 count_same P Q n k to from = (k.0, k.1, (λ d i. to d (k.2 d i)), (λ d q. k.3 d (from d q)), k.4)
 

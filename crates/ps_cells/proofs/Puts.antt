@@ -13,8 +13,8 @@ use Rattle.ps_cells.specs.Settled.{refers_to}
 use Rattle.ps_cells.specs.Inside.Walk.{IsDue, Lists, Shows}
 use Rattle.ps_cells.proofs.SettledValues.{true_not_false}
 
--- the value of x alone becomes another one: where it is no longer the one before the change only if it was so already,
--- a due cell stays due
+-- only the value of x becomes another one: if x differed from its value before the change, it still does; then a due
+-- cell stays due
 pub stays_due : (t : State) (touched : List ℕ) (v : Assignment) (x : ℕ) (u u2 : Assignment)
     → (¬ (u x ≡ v x) → ¬ (u2 x ≡ v x)) → ((c : ℕ) → c ≢ x → u2 c ≡ u c)
     → (c : ℕ) → IsDue t touched v u c → IsDue t touched v u2 c

@@ -49,7 +49,7 @@ module _ (s t : State) (v : Assignment) (x : ℕ) (change : IsStateChange s t v 
       subst (λ (formula : ℕ → Bool). IsFound (refers_to t) formula (x ∷ []) f) same_formulas
       (subst (λ (refers : References). IsFound refers (formula_at s) (x ∷ []) f) same_references found)
 
--- the source of a region stays it where it had no formula, by what is noted of it, and has none
+-- the region of a change of x alone is also the region of the next change of x alone, if x had no formula and has none
 pub region_stays : (s t : State) (v : Assignment) (touched : List ℕ) (source : Option ℕ) (f : Found) (x : ℕ)
     → IsStateChange s t v touched → IsRegionOf s source f → source ≡ Some x → touched ≡ x ∷ [] → has_left f x ≡ false
     → formula_at t x ≡ false → IsFound (refers_to t) (formula_at t) (x ∷ []) f

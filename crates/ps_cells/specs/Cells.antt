@@ -8,9 +8,10 @@ use Rattle.ps_delta.specs.State.{Blocks, State, state_at}
 use Rattle.ps_delta.specs.Deltas.{Entries, overlaid}
 use Rattle.ps_cells.specs.ChangedCells.{put_back}
 
--- what each cell holds and shows; what some showed before the staged change; the cells that were listed last as showing
--- another value, and those whose values were listed last, with these; how many workers there are; and where a change is
--- staged the touched cells, each with the state that it had
+-- `grid` is what each cell holds, and `shown` what it shows; `olds` is what some showed before the staged change;
+-- `changed` has the cells that were listed last as showing another value, `changes` the cells and values that were
+-- listed last; `workers` counts the workers; `staged` has the touched cells of a staged change, each with the state
+-- that it had
 pub record CellsView : Type 0 where
   pub grid : Blocks
   pub shown : List Kept
@@ -27,7 +28,7 @@ state_now x = state_at x.grid
 abbrev pub shown_now : CellsView → Assignment
 shown_now x = shown_at x.shown
 
--- the same before the staged change, where there is one
+-- the state before the staged change; without one, the state s that the cells hold
 abbrev pub state_without : State → Option Entries → State
 state_without s None = s
 state_without s (Some olds) = overlaid s olds

@@ -9,7 +9,7 @@ use Rattle.ps_shown.specs.declared.kept.Kept.{Kept}
 use Rattle.ps_shown.specs.Kept.{value_of as value_kept}
 use Rattle.ps_shown.specs.Shown.{with_value}
 
--- the assignment with old values put back: of two of a cell the first
+-- the assignment with old values put back; if a cell has two in the list, the first one counts
 unfoldable pub put_back : List (ℕ × Kept) → Assignment → Assignment
 put_back [] v = v
 put_back (e ∷ olds) v = with_value (put_back olds v) e.0 (value_kept e.1)

@@ -12,7 +12,7 @@ use Rattle.ps_region.specs.Found.{IsFrame, IsCount}
 abbrev pub formula_at : State → ℕ → Bool
 formula_at t c = is_some (formula_in (content_of (t c)))
 
--- the cell is of the frame of a change to the state t
+-- FRAME of a change to the state t: the formula cells of its region that reach no cycle
 abbrev pub InFrame : State → List ℕ → ℕ → Type 0
 InFrame t touched c = IsFrame (refers_to t) (formula_at t) touched c
 
@@ -39,7 +39,7 @@ pub record IsRecalculated (s t : State) (v w : Assignment) (evaluated cyclic lev
   pub deepest : (c : ℕ) → InFrame t touched c → (k : ℕ) × IsDepth (refers_to t) (InFrame t touched) c k × (k ≤ levels)
   pub reached : (levels ≡ 0) ⊎ ((c : ℕ) × InFrame t touched c × IsDepth (refers_to t) (InFrame t touched) c levels)
 
--- two states of the grid that are the same but at touched cells, and the settled values of each
+-- two states of the grid that differ at touched cells alone, and the settled values of each
 pub record IsSettledChange (s t : State) (touched : List ℕ) (v w : Assignment) : Type 0 where
   pub before : IsInGrid s
   pub after : IsInGrid t
@@ -53,7 +53,7 @@ OutsideShowsTheSame =
     (s t : State) (touched : List ℕ) (v w : Assignment) → IsSettledChange s t touched v w
     → (c : ℕ) → ¬ InRegion (refers_to t) touched c → w c ≡ v c
 
--- LAW: so does a cell of the frame that isn't touched, where each cell that it refers to shows what it showed
+-- LAW: a cell of the frame that isn't touched shows what it showed, if each cell that it refers to does
 abbrev pub QuietShowsTheSame : Type 0
 QuietShowsTheSame =
     (s t : State) (touched : List ℕ) (v w : Assignment) → IsSettledChange s t touched v w

@@ -16,11 +16,11 @@ use Rattle.ps_delta.specs.declared.cell_state.CellState.{CellState}
 use Rattle.ps_content.specs.declared.content.Content.{Content}
 use Rattle.ps_content.specs.declared.content.Content.TheVariants.{Blank, Number, Text, Formula, Tally, Choice}
 
--- what a cell holds: the content of its register, and nothing where nothing was assigned
+-- the content that a cell holds: that of its register, or Blank if nothing was assigned
 abbrev pub content_of : CellState → Content
 content_of x = option_map_or (λ a. a.content) x.register Blank
 
--- a cell stands in a reference or a range of a content's formula, in whichever branch
+-- the cell d is in a reference or a range of a content's formula, in whichever branch
 abbrev pub content_mentions : Content → ℕ → Bool
 content_mentions Blank d = false
 content_mentions (Number n) d = false
@@ -42,7 +42,7 @@ unfoldable pub bits_of : (ℕ → Bool) → ℕ → ℕ
 bits_of p zero = 0
 bits_of p (suc n) = cond (p 0) 1 0 + 2 * bits_of (λ k. p (k + 1)) n
 
--- the options that are in, as a number: bit k for option k
+-- the chosen options, as a number: bit k for option k
 abbrev pub options_of : Pairs → ℕ
 options_of c = bits_of (is_chosen c) OPTIONS
 

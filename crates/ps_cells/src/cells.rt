@@ -30,7 +30,7 @@ use std::thread::Threads;
 #[derive(Drop)]
 pub struct Cells {
     tables: Tables,
-    /// the touched cells of the staged change, each with the state that it had
+    /// lists of the cells that the staged change gave a new state; `states` has the state that each had before
     lists: Lists,
     /// whether a change is staged
     is_staged: bool,
@@ -53,8 +53,8 @@ impl Model for Cells {
 }
 
 impl Cells {
-    /// Returns cells that hold and show nothing. `workers`, 1 to `WORKERS`, is how many share the formulas of a wide
-    /// level.
+    /// Returns cells that hold and show nothing. Up to `workers` threads, 1 to `WORKERS`, evaluate formulas that don't
+    /// refer to one another, if a change has many of these.
     ///
     /// Fails only when out of memory.
     ///
@@ -74,14 +74,16 @@ impl Cells {
         })
     }
 
-    /// Joins a delta to what the cells hold, recalculates what they show, and returns what was recalculated. The change
-    /// can be cancelled. Each worker passes the gate before each of its evaluations.
+    /// Joins a delta to what the cells hold, recalculates what they show, and returns how much was recalculated.
+    ///
+    /// The change stays staged until `commit` or `cancel`. `rt` starts the workers' threads, and each worker passes
+    /// `gate` before each of its evaluations. `meter` counts the evaluations.
     ///
     /// Fails only when out of memory, and then the cells hold and show what they did.
     ///
-    /// Cost: that of the join, and of the region: its cells, their references, and the evaluations, which the workers
-    /// of a wide level share. If a cell of the region has a formula or showed `#CYCLE!`, also one look at each cell
-    /// that shows `#CYCLE!`.
+    /// Cost: that of the join and of the region (the cells whose values may change): its cells, the references to them,
+    /// and the evaluations, which workers share. If any cell shows `#CYCLE!`, also the references of the region's
+    /// formulas.
     pub fn stage<R: Threads + Sync, G: Gate, L: Ledger>(
         &mut self,
         rt: &R,
@@ -112,9 +114,10 @@ impl Cells {
         Ok(work)
     }
 
-    /// Commits the staged change. It takes no memory.
+    /// Commits the staged change: it can't be cancelled any more. The call allocates no memory.
     ///
-    /// Cost: the touched cells with their references, and the cells that were put.
+    /// Cost: the cells that the delta changed, with the references of their old formulas, and the cells whose values
+    /// were written.
     #[inline(always)]
     pub fn commit(&mut self)
         requires staged { is_some self.old.staged ≡ true }
@@ -126,9 +129,10 @@ impl Cells {
         self.is_staged = false;
     }
 
-    /// Cancels the staged change: the cells hold and show what they did. It takes no memory.
+    /// Cancels the staged change: the cells hold and show what they did before it. The call allocates no memory.
     ///
-    /// Cost: the touched cells with their references, the cells that were put, and those that show `#CYCLE!`.
+    /// Cost: the cells that the delta changed, with the references of their new formulas, and the cells whose values
+    /// were written.
     pub fn cancel(&mut self)
         requires staged { is_some self.old.staged ≡ true }
         ensures none { (self.new.staged ≡ None) × (self.new.olds ≡ []) }
@@ -141,9 +145,9 @@ impl Cells {
         self.is_staged = false;
     }
 
-    /// Lists the cells that show another value than before the staged change, for [`Cells::changed`].
+    /// Lists the cells that show another value than before the staged change. [`Cells::changed`] returns the list.
     ///
-    /// Cost: that of sorting them, and the cells that were put.
+    /// Cost: the cells whose values the change wrote, and sorting the listed ones.
     pub fn list_changed(&mut self)
         ensures changed { IsChanged (shown_before self.old) (shown_now self.old) self.new.changed }
         ensures kept { (self.new.grid ≡ self.old.grid) × (self.new.shown ≡ self.old.shown)
@@ -153,9 +157,11 @@ impl Cells {
         self.tables.shown.list_changed();
     }
 
-    /// Returns the cell that shows another value than before the staged change, if the change put no other cell.
+    /// Returns the cell that shows another value than before the staged change, if the change wrote the value of no
+    /// other cell.
     ///
-    /// None means that no cell shows another value or that several were put: [`Cells::list_changed`] lists them then.
+    /// `None` doesn't say that nothing changed: the change may have written several values. Then call
+    /// [`Cells::list_changed`].
     #[inline]
     pub fn one_changed(&self) -> Option<Cell>
         ensures changed { IfSome result (λ c. IsChanged (shown_before self.now) (shown_now self.now) (c ∷ [])) }
@@ -163,9 +169,11 @@ impl Cells {
         self.tables.shown.one_changed()
     }
 
-    /// Lists what the last listed cells show, for a change that is returned with its values (`Prepared`).
+    /// Lists the cells that [`Cells::list_changed`] listed last, each with the value that it shows now.
+    /// [`Cells::changes`] returns that list.
     ///
-    /// A publisher of changes reads the values from [`Cells::shown`] instead.
+    /// It serves callers that need the values as a slice, as a prepared change of a sheet. Others read
+    /// [`Cells::shown`].
     ///
     /// Cost: linear in these cells.
     pub fn list_values(&mut self)
@@ -177,7 +185,7 @@ impl Cells {
         self.tables.shown.list_values();
     }
 
-    /// Returns the cells that were listed last, ascending.
+    /// Returns the cells that [`Cells::list_changed`] listed last, ascending.
     pub fn changed(&self) -> &[Cell]
         ensures changed { result.now ≡ self.now.changed }
     {

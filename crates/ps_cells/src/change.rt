@@ -1,4 +1,7 @@
-//! The beginning of a change: everything that needs memory.
+//! The beginning of a change: everything that needs memory, so that the rest of the change can't fail.
+//!
+//! A cell is alone if it has no formula and no formula refers to it. Touched cells are those that the change gives a
+//! new state.
 
 ghost use Rattle.std.specs.Prelude.{◌≡◌, ℕ, [], true, false, OnOk, OnErr, IfOk, IfErr};
 ghost use Rattle.std.specs.List.{list_all};
@@ -21,8 +24,8 @@ use ps_region::CellSet;
 use ps_shown::Kept;
 use std::alloc::Global;
 
-/// Lists of the touched cells of a change. They are reused, so that a change allocates only if it touches more cells
-/// than all before.
+/// Lists of the touched cells of a change. They are reused: a change lets them grow only if it touches more cells than
+/// all changes before.
 #[derive(Drop)]
 pub(crate) struct Lists {
     /// the touched cells, unless they are alone
@@ -35,14 +38,14 @@ pub(crate) struct Lists {
     pub(crate) states: Vec<(Cell, CellState)>,
 }
 
-/// How the cells of a change that has begun are recalculated, with what a sole one that is alone shows at first.
+/// How to recalculate the cells of a change that has begun.
 #[derive(Drop)]
 pub(crate) enum Beginning {
-    /// The touched cell is one, and alone.
+    /// Only this cell is touched, and it is alone. It shows this value.
     Sole(Cell, Kept),
-    /// The touched cells are alone.
+    /// The touched cells are alone; `Lists::first` has the values that they show.
     Alone,
-    /// They are the beginning of a region.
+    /// The touched cells aren't all alone, or some cell is cyclic: the change has a region.
     Region,
 }
 
@@ -57,9 +60,9 @@ impl Lists {
     }
 }
 
-/// Begins the change that a delta makes. Lists the touched cells with their new states, and works out what they show at
-/// first. Returns whether they are alone while no cell is cyclic. If they aren't, the new formulas are put into the
-/// index beside the old ones.
+/// Begins the change that a delta makes. Lists the touched cells with their new states and with what they show at
+/// first. Returns how to recalculate. For `Beginning::Region`, it also puts the new formulas into the index beside the
+/// old ones.
 ///
 /// Fails only when out of memory, and then the index stands for what it stood for.
 pub(crate) fn begin(
@@ -95,7 +98,7 @@ pub(crate) fn begin(
     Ok(Beginning::Region)
 }
 
-/// Begins a change of cells that are alone: what a sole one shows at first isn't listed.
+/// Begins a change of cells that are alone. If it is only one cell, its value is returned and not listed.
 #[inline(always)]
 fn begin_alone(
     alloc: Global,
@@ -114,14 +117,14 @@ fn begin_alone(
     Ok(Beginning::Alone)
 }
 
-/// Whether no state of these has a formula, and no formula refers to one of the cells.
+/// Returns whether all cells are alone: no new state has a formula, and no formula refers to one of the cells.
 fn are_alone(index: &Index, cells: &[(Cell, CellState)]) -> bool
     ensures { result ≡ list_all (is_alone_entry (listed index.now)) cells.now }
 {
     cells.iter().all(|entry| is_alone(index, entry))
 }
 
-/// Whether the state isn't that of a formula, and no formula refers to the cell.
+/// Returns whether the cell is alone: its new state has no formula, and no formula refers to the cell.
 fn is_alone(index: &Index, entry: &(Cell, CellState)) -> bool
     ensures { result ≡ is_alone_entry (listed index.now) entry.now }
 {
@@ -141,7 +144,7 @@ fn is_unread(index: &Index, cell: Cell) -> bool
     }
 }
 
-/// Copies the cells into the list `alone`, without their states.
+/// Copies the cells, without their states, into a list.
 fn list_cells(cells: &[(Cell, CellState)], alone: &mut Vec<Cell>) -> Result<(), Refusal>
     ensures cells { OnOk result (alone.new.items ≡ cells_of cells.now) }
     ensures memory { IfErr result (λ e. e ≡ Refusal.Memory) }
@@ -170,7 +173,7 @@ fn list_first(
     Ok(())
 }
 
-/// Puts the formulas of the cells into the index. If one fails, those before it are taken out again.
+/// Puts the formulas of the new states into the index. If one can't be put in, takes out those before it again.
 fn put_formulas(index: &mut Index, cells: &[(Cell, CellState)]) -> Result<(), Refusal>
     requires stands { (forms : Puts) × Stands index.old forms }
     ensures put { OnOk result ((forms : Puts) → Stands index.old forms

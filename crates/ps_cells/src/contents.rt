@@ -16,14 +16,14 @@ use ps_shown::Kept;
 use ps_value::Fault;
 use std::alloc::Global;
 
-/// Returns the content of a cell's register; none if nothing was assigned to it.
+/// Returns the content of a cell's register; `None` if nothing was assigned to the cell.
 pub fn content(state: &CellState) -> Option<&Content>
     ensures { option_copied result ≡ option_map (λ a. a.content) state.now.register }
 {
     state.register.content()
 }
 
-/// The formula of a cell, if its content is one.
+/// Returns the formula of a cell, if its content is one.
 pub(crate) fn formula_of(state: &CellState) -> Option<&Formula>
     ensures { option_copied result ≡ formula_in (content_of state.now) }
 {
@@ -37,7 +37,8 @@ pub(crate) fn holds_formula(state: &CellState) -> bool
     formula_of(state).is_some()
 }
 
-/// What is stored for a cell at first: a formula waits, and any other content shows its value.
+/// Returns what a recalculation stores for a cell at first: `#CYCLE!` for a formula, which waits for its evaluation,
+/// and the value of any other content.
 ///
 /// Fails only when out of memory.
 #[inline(always)]
@@ -51,7 +52,7 @@ pub(crate) fn first_of(alloc: Global, state: &CellState) -> Result<Kept, Refusal
     }
 }
 
-/// What is stored at first for a cell with this content.
+/// Returns what a recalculation stores at first for a cell with this content.
 #[inline(always)]
 fn first_by(alloc: Global, content: &Content, state: &CellState) -> Result<Kept, Refusal>
     ensures first { IfOk result (λ k. value_kept k ≡ first_by content.now state.now) }
@@ -67,7 +68,7 @@ fn first_by(alloc: Global, content: &Content, state: &CellState) -> Result<Kept,
     }
 }
 
-/// The options that are in, as a number: bit k stands for option k.
+/// Returns the chosen options as a number: bit k stands for option k.
 fn options_of(choice: &Choice) -> u64
     ensures { result ≡ options_of choice.now }
 {

@@ -1,5 +1,5 @@
-//! One level of a recalculation. Workers evaluate its due cells together, and then each cell shows its value, one after
-//! the other. A level of one cell is evaluated and shown at once.
+//! One level of a recalculation: formulas that don't refer to one another. Workers evaluate its due cells together, and
+//! then each cell shows its value, one after the other. The cell of a level of one is evaluated and shown at once.
 
 ghost use Rattle.std.specs.Prelude.{◌≡◌, ◌+◌, ◌<◌, ◌≤◌, ◌∷◌, ◌++◌, [], List, ℕ, Bool, false, true};
 ghost use Rattle.std.specs.Prelude.{filter, length, vec_capacity, IfOk, IfErr};
@@ -39,7 +39,7 @@ pub(crate) struct Workers<'a, R, G> {
     pub(crate) rt: &'a R,
     /// how many there are
     pub(crate) count: usize,
-    /// what each passes before each of its evaluations
+    /// the gate that each worker passes before each of its evaluations
     pub(crate) gate: &'a G,
 }
 
@@ -52,7 +52,7 @@ pub(crate) struct Inputs<'a> {
     pub(crate) index: &'a Index,
 }
 
-/// The step of a recalculation that a level is.
+/// One step of a recalculation: a level.
 #[derive(Clone, Copy)]
 pub(crate) struct Step<'a> {
     /// its cells
@@ -126,10 +126,10 @@ impl Level {
         })
     }
 
-    /// Recalculates the due cells of a level, by workers. Returns how many were evaluated.
+    /// Recalculates the due (flagged) cells of a level, by workers. Returns how many were evaluated.
     ///
-    /// The last level sets no flags, since no cell that is still to be evaluated refers to one of it. Chains and
-    /// circles have levels of one cell, which is recalculated by itself, without lists, places and threads.
+    /// The last level sets no flags, since no cell that is still to be evaluated refers to a cell of it. A chain of
+    /// formulas has levels of one cell. Such a cell is recalculated by itself, without lists, places and threads.
     pub(crate) fn settle<R: Threads + Sync, G: Gate, L: Ledger>(
         &mut self,
         workers: &Workers<'_, R, G>,
@@ -190,7 +190,8 @@ fn settle_one<R: Threads + Sync, G: Gate, L: Ledger>(
     1
 }
 
-/// Evaluates the only cell of a level, which is due, and lets it show its value.
+/// Evaluates the only cell of a level, which is due, and lets it show its value. Flags the cells that are due then,
+/// unless the level is the last.
 #[inline(always)]
 fn settle_due_one<G: Gate, L: Ledger>(
     gate: &G,
@@ -214,7 +215,7 @@ fn settle_due_one<G: Gate, L: Ledger>(
     show_one(inputs.index, cell, kept, is_last, shown, flags);
 }
 
-/// The value of a cell's formula.
+/// Returns the value of a cell's formula, evaluated as worker 0.
 #[inline(always)]
 fn evaluate_one<G: Gate, L: Ledger>(
     gate: &G,
@@ -236,7 +237,8 @@ fn evaluate_one<G: Gate, L: Ledger>(
     )
 }
 
-/// Lets the only due cell of a level show its value, and flags the cells of further levels that are due then.
+/// Lets the only due cell of a level show its value, and flags the cells that are due then, unless the level is the
+/// last.
 #[inline(always)]
 fn show_one(
     index: &Index,
@@ -340,7 +342,8 @@ fn evaluate<R: Threads + Sync, G: Gate, L: Ledger>(
     );
 }
 
-/// Lets each due cell of a level show the value of its place, and flags the cells of further levels that are due then.
+/// Lets each due cell of a level show the value of its place, and flags the cells that are due then, unless the level
+/// is the last.
 fn show_due(
     index: &Index,
     cells: &[Cell],

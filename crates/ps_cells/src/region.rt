@@ -1,4 +1,5 @@
-//! The region of a change. While one cell gets one number after another, its region stays and isn't searched again.
+//! The region of a change: the cells whose values may change. While one cell gets one entry after another, none of them
+//! a formula, the region stays and isn't marked again.
 
 ghost use Rattle.std.specs.Prelude.{◌≡◌, ◌<◌, ◌∷◌, [], ℕ, true, false, IfSome, Some};
 ghost use Rattle.ps_formula.specs.References.{mentions};
@@ -18,7 +19,7 @@ use ps_grid::{CELLS, Cell, Rect};
 use ps_index::Index;
 use ps_region::{After, CellSet, Region};
 
-/// The formulas that the cells hold.
+/// The formulas that the cells hold, as `Region::mark` reads them.
 #[derive(Drop)]
 struct FormulasAfter<'a> {
     grid: &'a Grid,
@@ -76,7 +77,7 @@ fn refers(formula: &Formula, cell: Cell) -> bool
     false
 }
 
-/// The cell of a list that has just one.
+/// Returns the cell of a list that has only one.
 fn sole(cells: &[Cell]) -> Option<Cell>
     ensures { IfSome result (λ c. cells.now ≡ c ∷ []) }
 {
@@ -86,8 +87,8 @@ fn sole(cells: &[Cell]) -> Option<Cell>
     }
 }
 
-/// Whether the last region, of a change of the source, is that of this change too: only the source is touched, and it
-/// had no formula and has none.
+/// Returns whether `region`, found for a change of the cell `source` alone, is also the region of this change: only
+/// `source` is touched, and it had no formula and has none.
 fn stays(grid: &Grid, region: &Region, source: Option<Cell>, touched: &[Cell]) -> bool
     ensures { result ≡ true → (c : ℕ) × (source ≡ Some c) × (touched.now ≡ c ∷ [])
         × (has_left region.now c ≡ false) × (formula_at (state_at grid.now) c ≡ false) }
@@ -101,7 +102,7 @@ fn stays(grid: &Grid, region: &Region, source: Option<Cell>, touched: &[Cell]) -
     !holds_formula(grid.at(cell))
 }
 
-/// Finds the region of a change, or leaves that of the change before if it is the same.
+/// Finds the region of a change, or leaves the region of the change before if it is the same.
 pub(crate) fn find_region(
     grid: &Grid,
     index: &Index,

@@ -25,8 +25,8 @@ use ps_value::{Fault, Operand, Value};
 use std::alloc::Global;
 use std::marker::Model;
 
-/// What each cell shows. For the cells that were put since it was last kept or taken back, it also stores what they
-/// showed before.
+/// What each cell shows. It also stores what cells showed before the change in progress, for the cells that were put
+/// (given a value by `put`) since the last `keep` or `take_back`.
 #[derive(Drop)]
 pub(crate) struct Screen {
     /// what each cell shows
@@ -66,7 +66,7 @@ impl Model for Screen {
 }
 
 impl Screen {
-    /// Where each cell shows nothing.
+    /// Returns a screen where each cell shows nothing.
     ///
     /// Fails only when out of memory.
     pub(crate) fn new(alloc: Global) -> Result<Screen, Refusal>
@@ -111,7 +111,7 @@ impl Screen {
         self.shown.kept(cell)
     }
 
-    /// What evaluation reads of what a cell shows.
+    /// Returns what evaluation reads of the value that a cell shows.
     #[inline]
     pub(crate) fn operand(&self, cell: Cell) -> Operand
         ensures { result ≡ operand_of (shown_at self.now.kept cell) }
@@ -119,7 +119,7 @@ impl Screen {
         self.shown.operand(cell)
     }
 
-    /// What SUM, MIN, MAX and COUNT need to know of the items of a range.
+    /// Returns what SUM, MIN, MAX and COUNT need to know of the items of a range.
     #[inline]
     pub(crate) fn summary(&self, rect: Rect) -> Summary
         ensures { Summarizes (range_items (shown_at self.now.kept) rect) result }
@@ -127,7 +127,7 @@ impl Screen {
         self.shown.summary(rect)
     }
 
-    /// Notes that formulas sum this range.
+    /// Notes that a formula refers to this range; only a long one makes a difference.
     pub(crate) fn expect(&mut self, rect: Rect)
         ensures { self.new ≡ self.old }
     {
@@ -151,7 +151,7 @@ impl Screen {
         }
     }
 
-    /// Makes a set of the cells that show `#CYCLE!` one of those that showed it before.
+    /// Turns the set of the cells that show `#CYCLE!` into the set of those that showed it before.
     ///
     /// Cost: the cells that were put.
     pub(crate) fn restore_cyclic(&self, cyclic: &mut CellSet)
@@ -161,7 +161,7 @@ impl Screen {
         restore_each(&self.olds, cyclic);
     }
 
-    /// Puts what a cell shows from now on.
+    /// Puts a value: the cell shows it from now on.
     #[inline(always)]
     pub(crate) fn put(&mut self, cell: Cell, kept: Kept)
         ensures shown { shown_at self.new.kept ≡ with_value (shown_at self.old.kept) cell (value_kept kept) }
@@ -171,14 +171,14 @@ impl Screen {
         note(&mut self.olds, &mut self.is_put, cell, old);
     }
 
-    /// The cells that were listed last.
+    /// Returns the cells that `list_changed` listed last.
     pub(crate) fn changed(&self) -> &[Cell]
         ensures changed { result.now ≡ self.now.changed }
     {
         &self.cells
     }
 
-    /// The cells whose values were listed last, with these.
+    /// Returns what `list_values` listed last.
     pub(crate) fn changes(&self) -> &[(Cell, Value)]
         ensures changes { result.now ≡ self.now.changes }
     {
@@ -196,8 +196,8 @@ impl Screen {
         self.cells.sort_unstable();
     }
 
-    /// The cell that shows another value than before, if it is the only one that was put. None means that no cell shows
-    /// another value or that several were put.
+    /// Returns the cell that shows another value than before, if it is the only one that was put. `None` means that no
+    /// cell shows another value or that several were put.
     #[inline]
     pub(crate) fn one_changed(&self) -> Option<Cell>
         ensures changed { IfSome result (λ c. IsChanged (before_of self.now) (shown_at self.now.kept) (c ∷ [])) }
@@ -205,7 +205,7 @@ impl Screen {
         one_differing(&self.olds, &self.shown)
     }
 
-    /// Lists the cells that were listed, with what they show.
+    /// Lists the cells that `list_changed` listed last, each with the value that it shows.
     pub(crate) fn list_values(&mut self)
         ensures kept { self.new.kept ≡ self.old.kept }
         ensures olds { self.new.olds ≡ self.old.olds }
@@ -239,7 +239,7 @@ fn is_cycle(kept: &Kept) -> bool
     matches!(kept, Kept::Err(Fault::Cycle))
 }
 
-/// Puts the cells of old values that are `#CYCLE!` into a set, and takes the others out.
+/// Puts the cells whose old value is `#CYCLE!` into a set, and takes the others of `olds` out.
 fn restore_each(olds: &[(Cell, Kept)], cyclic: &mut CellSet)
     requires once { IsDistinct nat_eq (cells_in olds.now) }
     ensures before { (w : Assignment) → ShowCycle w cyclic.old → ShowCycle (put_back olds.now w) cyclic.new }
@@ -249,7 +249,7 @@ fn restore_each(olds: &[(Cell, Kept)], cyclic: &mut CellSet)
     }
 }
 
-/// Puts the cell of an old value into a set if that is `#CYCLE!`, or else takes it out.
+/// Puts the cell of an old value into a set if the value is `#CYCLE!`, or else takes it out.
 fn restore_one(old: &(Cell, Kept), cyclic: &mut CellSet)
     ensures { HoldsAsKept old.now cyclic.old cyclic.new }
 {
@@ -260,7 +260,7 @@ fn restore_one(old: &(Cell, Kept), cyclic: &mut CellSet)
     }
 }
 
-/// Lists the cells of old values that show another one now.
+/// Lists the cells that don't show their old value any more.
 #[inline]
 fn list_differing(olds: &[(Cell, Kept)], shown: &Shown, cells: &mut Vec<Cell>)
     requires once { IsDistinct nat_eq (cells_in olds.now) }
@@ -275,7 +275,7 @@ fn list_differing(olds: &[(Cell, Kept)], shown: &Shown, cells: &mut Vec<Cell>)
     }
 }
 
-/// Lists the cell of an old value if it shows another one now.
+/// Lists the cell of an old value if it doesn't show that any more.
 #[inline]
 fn list_one(old: &(Cell, Kept), shown: &Shown, cells: &mut Vec<Cell>)
     requires room { length cells.old.items < vec_capacity cells.old }
@@ -287,7 +287,7 @@ fn list_one(old: &(Cell, Kept), shown: &Shown, cells: &mut Vec<Cell>)
     }
 }
 
-/// The cell of the only old value, if it shows another one now.
+/// Returns the cell of the only old value, if the cell doesn't show that any more.
 #[inline]
 fn one_differing(olds: &[(Cell, Kept)], shown: &Shown) -> Option<Cell>
     ensures changed { IfSome result
@@ -299,7 +299,7 @@ fn one_differing(olds: &[(Cell, Kept)], shown: &Shown) -> Option<Cell>
     None
 }
 
-/// The cell of an old value, if it shows another one now.
+/// Returns the cell of an old value, if the cell doesn't show that any more.
 #[inline]
 fn other(old: &(Cell, Kept), shown: &Shown) -> Option<Cell>
     ensures other { IfSome result

@@ -1,7 +1,7 @@
-//! The sums of long ranges, remembered before a level of formulas is evaluated: the workers of the level only read what
-//! is shown.
+//! The sums of long ranges (of `LONG` rows or more). They are remembered before a level of formulas is evaluated, as
+//! the workers of the level may only read what the cells show.
 //!
-//! A contract sees none of it. A sheet that never had a formula with a long range pays a test for each level.
+//! Contracts don't see the remembered sums. A sheet that never had a formula with a long range pays one test a level.
 
 ghost use Rattle.std.specs.Prelude.{◌≡◌};
 
@@ -10,7 +10,7 @@ use crate::screen::Screen;
 use ps_delta::{CellState, Grid};
 use ps_grid::Cell;
 
-/// Notes the ranges of the formula of a touched cell.
+/// Notes whether the formula of a touched cell has long ranges.
 pub(crate) fn expect_sums(state: &CellState, shown: &mut Screen)
     ensures { shown.new ≡ shown.old }
 {

@@ -48,7 +48,7 @@ pub(crate) struct Tables {
     source: Option<Cell>,
     /// the cells that show `#CYCLE!`
     pub(crate) cyclic: CellSet,
-    /// which cells are due, while a change is made
+    /// which cells are due, while a change is made: to be evaluated, as they or a cell that they refer to changed
     flags: Vec<bool>,
     /// the due cells of one level
     level: Level,
@@ -56,19 +56,19 @@ pub(crate) struct Tables {
     pub(crate) workers: usize,
 }
 
-/// What a recalculation did.
+/// How much a recalculation did.
 #[derive(Drop)]
 pub struct Work {
     /// how many formulas were evaluated
     pub evaluated: u64,
-    /// how many formula cells of the region are cyclic
+    /// how many formula cells of the region (the cells that the change reaches) are cyclic
     pub cyclic: u64,
-    /// how many levels the other ones have
+    /// how many levels the other formula cells of the region have; those of one level don't refer to one another
     pub levels: u64,
 }
 
 impl Work {
-    /// Returns the report of no work.
+    /// Returns a `Work` whose counts are all 0.
     #[inline(always)]
     pub fn none() -> Work
         ensures evaluated { result.evaluated ≡ 0 }
@@ -84,7 +84,7 @@ impl Work {
 }
 
 impl Tables {
-    /// Cells that hold and show nothing.
+    /// Returns tables of cells that hold and show nothing.
     ///
     /// Fails only when out of memory.
     pub(crate) fn new(alloc: Global, workers: usize) -> Result<Tables, Refusal>
@@ -110,8 +110,8 @@ impl Tables {
         })
     }
 
-    /// Joins a delta to what the cells hold, and recalculates what they show. Returns the work that this was. Lists the
-    /// touched cells, each with the state that it had.
+    /// Joins a delta to what the cells hold, and recalculates what they show. Returns how much was recalculated. Lists
+    /// the touched cells in `lists`, each with the state that it had.
     ///
     /// Fails only when out of memory, and then the cells hold and show what they did.
     pub(crate) fn join<R: Threads + Sync, G: Gate, L: Ledger>(
@@ -180,8 +180,7 @@ impl Tables {
         self.source = None;
     }
 
-    /// Recalculates what the cells show, once the touched cells hold their new states, in the way in which the change
-    /// began.
+    /// Recalculates what the cells show, once the touched cells hold their new states. `how` is what `begin` returned.
     #[inline(always)]
     fn recalculate<R: Threads + Sync, G: Gate, L: Ledger>(
         &mut self,
@@ -313,7 +312,7 @@ pub(crate) fn no_flags(alloc: Global, n: usize) -> Result<Vec<bool>, Refusal>
     Ok(flags)
 }
 
-/// Updates the set of the cyclic cells: those of the region are cyclic now where the region says so.
+/// Updates the set of cyclic cells: of the region's cells, it then has those that the region found cyclic.
 fn renew(region: &Region, cyclic: &mut CellSet)
     ensures { (c : ℕ) → has_cell cyclic.new c ≡ ((has_cell cyclic.old c && not (list_any (nat_eq c) region.now.members))
         || list_any (nat_eq c) region.now.cyclic) }

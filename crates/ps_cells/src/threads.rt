@@ -1,6 +1,6 @@
-//! Proof that cells may go to another thread.
+//! Proof that `Cells` may go to another thread.
 //!
-//! The search for this proof fails over the whole at once, so it takes the parts one after another.
+//! The prover doesn't find this proof for the whole type at once, so the function names its parts one after another.
 ghost use denote.Param.Send.{IsSend, IsSync};
 ghost use Rattle.ps_cells.specs.contracts.cells.Cells as cells;
 
@@ -10,13 +10,13 @@ use ps_delta::{CellState, Grid};
 use ps_index::Index;
 use ps_region::{CellSet, Region};
 
-/// What the bounds say of a type.
+/// States that a type with the bounds `Send` and `Sync` is what they say.
 fn is_send_and_sync<T: Send + Sync>()
     ensures send { IsSend T.row }
     ensures sync { IsSync T.row }
 {}
 
-/// States that cells may go to another thread.
+/// States that a `Cells` may go to another thread (`IsSend`).
 pub fn cells_are_send()
     ensures { IsSend cells.the_row }
 {

@@ -1,4 +1,5 @@
-//! The walk of a recalculation: the touched and the cyclic cells first, then level after level.
+//! The order of a recalculation: the touched and the cyclic cells first, then level after level. A flag says that a
+//! cell is due: to be evaluated when its level comes.
 
 ghost use Rattle.std.specs.Prelude.{◌≡◌, ◌+◌, ◌<◌, ◌≤◌, ◌||◌, ℕ, List, true, false, length, map, nat_eq};
 ghost use Rattle.std.specs.Iterator.{AlwaysYields, IsFinite};
@@ -32,7 +33,7 @@ use std::mem;
 use std::sync::ledger::Ledger;
 use std::thread::Threads;
 
-/// Flags the cells of a walk.
+/// Flags the cells that `walk` yields.
 fn flag_each<W: Iterator<Item = Cell> + Drop>(walk: W, flags: &mut [bool])
     requires can { W.can_next walk }
     requires ends { IsFinite (W.remaining walk) }
@@ -45,7 +46,7 @@ fn flag_each<W: Iterator<Item = Cell> + Drop>(walk: W, flags: &mut [bool])
     }
 }
 
-/// Flags the cells that refer to a cell. They are walked only if there may be several.
+/// Flags the cells that the index lists for a cell.
 #[inline(always)]
 fn flag_dependents(index: &Index, cell: Cell, flags: &mut [bool])
     requires whole { length flags.old ≡ CELLS }
@@ -61,7 +62,7 @@ fn flag_dependents(index: &Index, cell: Cell, flags: &mut [bool])
     }
 }
 
-/// Lets a cell show a value, and flags the cells that refer to it if the value is another one than before.
+/// Lets a cell show a value. If it showed another one before, flags the cells that refer to it.
 #[inline(always)]
 pub(crate) fn show(index: &Index, cell: Cell, kept: Kept, shown: &mut Screen, flags: &mut [bool])
     requires whole { length flags.old ≡ CELLS }
@@ -146,7 +147,7 @@ pub(crate) fn close_all(cells: &[Cell], shown: &mut Screen)
     }
 }
 
-/// Recalculates the frame, level after level. Returns how many cells were evaluated.
+/// Recalculates the region's formula cells that reach no cycle, level after level. Returns how many were evaluated.
 pub(crate) fn settle_frame<R: Threads + Sync, G: Gate, L: Ledger>(
     workers: &Workers<'_, R, G>,
     inputs: &Inputs<'_>,

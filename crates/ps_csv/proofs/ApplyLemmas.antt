@@ -41,7 +41,7 @@ assigned_one r h k (c ∷ cs) batch some is made =
     let made_of = subst Makes is made in
     ok_and (delta_of_edit r (joined_history h) (SetAll (c ∷ cs))) (λ d. k ≡ h ++ d ∷ []) made_of
 
--- an edit that was made of deltas after a history was made of the history with them
+-- an edit that was made over a history and later deltas was made over the history with these deltas appended
 pub made_after : (h xs ys : List Entries) (answer : Result Entries Refusal)
     → IsOkAnd answer (λ d. ys ≡ xs ++ d ∷ []) → IsOkAnd answer (λ d. h ++ ys ≡ (h ++ xs) ++ d ∷ [])
 made_after h xs ys (Ok d) is = ap (λ (ds : List Entries). h ++ ds) is ∙ sym (append_assoc h xs (d ∷ []))
@@ -93,8 +93,8 @@ unchanged_after r n h k (e ∷ es) under one c le =
     ∙ ap (λ (x : _). joined_cell (joined_history h c) x) none
     ∙ joined_cell-empty_right (joined_history h c)
 
--- on its way: the first n of all records were assigned to the history h, which is k now; the cells of the others are
--- what they were
+-- on the way: the first n of all records were assigned after the history h, which is k now; the cells of the others are
+-- as before
 pub record IsApplying (r : ℕ) (h : List Entries) (all : List Cells) (n : ℕ) (rest : List Cells)
     (k : List Entries) : Type 0 where
   pub table : List Record
@@ -157,7 +157,7 @@ next_ascends r h k all rest n cells on =
     let next = next_says (joined_history h) n on.table cells rest on.said in
     fields_say-ascending (joined_history h) n next.0 cells next.2
 
--- its edit isn't refused for a register that has the last time
+-- no register of the next record has the last time, so its edit isn't refused for that
 pub next_is_free : (r q : ℕ) (h k : List Entries) (all rest : List Cells) (n : ℕ) (cells : Cells) (e : Refusal)
     → IsApplying r h all n (cells ∷ rest) k → delta_of_edit q (joined_history k) (SetAll cells) ≡ Err e → ⊥
 next_is_free r q h k all rest n cells e on refused =
@@ -202,7 +202,7 @@ applying_ends r h k all n on =
     ∙ take-append-drop n all in
     subst (λ (xs : List Cells). Assigned r h xs k) whole on.so_far
 
--- .. where the cells that are left are those of a list
+-- the same, where the cells of the other records are given as a list
 pub applying_from : (r : ℕ) (h : List Entries) (all : List Cells) (items left : List (Vec (ℕ × Content)))
     (table : List Record)
     → left ≡ items → all ≡ cells_of_each items → RecordsSay (joined_history h) 0 table all

@@ -1,4 +1,4 @@
--- The entries of a rectangle are its entries again, where they are taken into an empty sheet.
+-- The entries of a rectangle, exported and then imported into an empty sheet, are the same entries again.
 use Rattle.std.proofs.Common.{◌≡◌, ◌+◌, ◌<◌, ◌∙◌, [], ℕ, List, length, refl, ap, subst, arith, get_or}
 use Rattle.std.proofs.lemmas.List.FromFn.{get_or-map-range_with_len, length-map-range_with_len}
 use Rattle.ps_grid.specs.Rectangle.{Area, cell_within}

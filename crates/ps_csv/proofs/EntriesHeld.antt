@@ -1,4 +1,4 @@
--- What a sheet without a past holds once records were assigned to it.
+-- What an empty sheet holds after records were assigned to it.
 use Rattle.std.proofs.Common.{◌≡◌, ◌+◌, ◌<◌, ◌≤◌, ◌∷◌, ◌++◌, ◌∙◌, [], ℕ, zero, suc, List, map, length}
 use Rattle.std.proofs.Common.{refl, ap, sym, subst, arith, get_or, Ok}
 use Rattle.std.specs.List.{list_any}
@@ -45,7 +45,7 @@ fields_column s n j (f ∷ fields) cells said (suc i) lt =
     let later = fields_column s n (j + 1) fields said.1 said.4 i (omega (arith, lt)) in
     omega (arith, later)
 
--- the entry of a cell of the delta of a record is the field for it, where that is a canonical text
+-- in the delta of a record, the entry of a cell is the cell's field, if that is a canonical text
 fields_hold : (r : ℕ) (s t : State) (n j : ℕ) (fields : Record) (cells : Cells) → FieldsSay s n j fields cells
     → (i : ℕ) → i < length fields → (x : Content) → IsContent x → get_or fields i [] ≡ canonical_text x
     → canonical_text (content_of (state_of (delta_of_cells r t cells) (place n (j + i)))) ≡ get_or fields i []
@@ -113,7 +113,7 @@ unfolding Assigned
 nothing_done r h k [] none done = done
 nothing_done r h k (x ∷ xs) none done = cc none
 
--- records from the n-th on leave what is above them
+-- records from the n-th on don't change the rows above
 above_stays : (r : ℕ) (s : State) (n : ℕ) (table : List Record) (batches : List Cells) (h k : List Entries)
     → RecordsSay s n table batches → Assigned r h batches k
     → (c : ℕ) → c < place n 0 → joined_history k c ≡ joined_history h c
@@ -131,7 +131,7 @@ above_stays r s n (fields ∷ table) batches h k said done c lt =
     above_stays r s (n + 1) table said.1 parts.middle k said.4 parts.rest c (omega (arith, lt))
     ∙ parts.joined c ∙ ap (joined_cell (joined_history h c)) none ∙ joined_cell-empty_right (joined_history h c)
 
--- the entries of the cells of records that were assigned where nothing was assigned before
+-- the entries of the cells after records were assigned, if nothing was assigned before
 pub records_hold : (r : ℕ) (s : State) (n : ℕ) (table : List Record) (batches : List Cells) (h k : List Entries)
     → RecordsSay s n table batches → Assigned r h batches k
     → ((c : ℕ) → place n 0 ≤ c → joined_history h c ≡ empty_cell)

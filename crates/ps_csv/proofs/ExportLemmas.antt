@@ -74,13 +74,13 @@ writing-begins w written has = record {
   bytes = rw (append-nil written) has.bytes;
 }
 
--- the text that one piece after another makes of what was known
+-- the text after one piece was appended to a known text
 appended : (old new : Option (List ℕ)) (written more : List ℕ) → old ≡ Some written → Appends old new more
     → new ≡ Some (written ++ more)
 appended old None written more is appends = absurd (rw is at appends)
 appended old (Some now) written more is appends = ap (λ (t : List ℕ). Some t) (rw is at appends)
 
--- .. and the other way round
+-- the other way round: the known text, from the text after the piece
 appends_known : (o : Option (List ℕ)) (written more : List ℕ) → o ≡ Some (written ++ more)
     → Appends (Some written) o more
 appends_known o written more is = rw is refl

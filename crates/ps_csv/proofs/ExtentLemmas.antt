@@ -36,7 +36,7 @@ records_within s n (r ∷ table) batches le said =
     let later = records_within s (n + 1) table said.1 (omega (arith, within)) said.4 in
     omega (arith, later)
 
--- the greatest number of fields, and of m
+-- the maximum of m and of the numbers of fields
 abbrev most_from : ℕ → List Record → ℕ
 most_from m table = fold (λ most fields. max most (length fields)) m table
 

@@ -50,7 +50,7 @@ first_fault_refusal s bytes e first device =
       | inr within ↦ record_fault_refusal s _ first.here e within.1 device
     ]
 
--- so none of a table is
+-- so no fault of a table is a device's
 no_device_of : (own : Option Error) (t : State) (bytes : List ℕ) (e : Refusal) (P : Type 0)
     → IfNone own ((e ≡ Memory) ⊎ FirstFault t bytes e) → IfSome own (λ error. (e ≡ Csv) × ReaderFails t bytes error)
     → e ≡ Device → P

@@ -18,7 +18,7 @@ use Rattle.ps_content.specs.declared.content.Content.TheVariants.{Blank, Number,
 use Rattle.ps_csv.specs.Exports.{table_text}
 use Rattle.ps_csv.specs.Records.{IsTable, Record}
 
--- the first byte, 0 where there is none
+-- the first byte, or 0 if there is none
 abbrev pub front : List ℕ → ℕ
 front text = get_or text 0 0
 
@@ -91,7 +91,7 @@ later_plain : (row : Record) (table : List Record) → ((k : ℕ) → k < length
     → 0 < length (get_or (row ∷ table) k [])) → (k : ℕ) → k < length table → 0 < length (get_or table k [])
 later_plain row table some k lt = some (suc k) (omega (arith, lt))
 
--- the records that are read of the text of records with fields are these
+-- reading the text of records that have fields gives these records
 reached_are : (written read : List Record) (state : ReaderState) (rest : List ℕ)
     → ((k : ℕ) → k < length written → 0 < length (get_or written k []))
     → Reached default_config states.StartRecord (rows_text written) read state rest
@@ -114,7 +114,7 @@ reached_are (row ∷ written) (r ∷ rs) state rest some reached ended =
     let tail = reached_are written rs state rest (later_plain row written some) others ended in
     rw (head, tail) refl
 
--- what is read of a table that was written is that table
+-- reading the text of a written table gives that table
 pub reads_written : (written read : List Record) → ArePlain written → IsTable (table_text written) read
     → read ≡ written
 unfolding table_text

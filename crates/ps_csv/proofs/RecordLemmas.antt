@@ -131,7 +131,7 @@ record_fault s n j fields field cells e lt is said fault =
       fault = subst (λ (k : ℕ). FieldFault s n k field e) size fault;
     }
 
--- .. at the field that a record gives
+-- the same for the field that a record has at this position
 pub entry_fault : (s : State) (n j c : ℕ) (fields : Record) (field : List ℕ) (cells : Cells) (e : Refusal)
     → j < length fields
     → get_or fields j [] ≡ field → FieldsSay s n 0 (take j fields) cells → j < COLUMNS → c ≡ place n j
@@ -156,7 +156,7 @@ pub fields_say-all : (s : State) (n j : ℕ) (fields : Record) (cells : Cells) �
 fields_say-all s n j fields cells le said =
     subst (λ (xs : Record). FieldsSay s n 0 xs cells) (take_all j fields le) said
 
--- the field that a record gives at a place
+-- the field that a record has at a position
 pub field_given : (fields : Record) (j : ℕ) (got : Option (Bor (List ℕ))) (x : Bor (List ℕ))
     → option_map (λ f. f.now) got ≡ field_at fields j → got ≡ Some x → get_or fields j [] ≡ x.now
 field_given fields j got x value is = field-get fields j x.now (sym value ∙ ap (option_map (λ f. f.now)) is)
@@ -172,7 +172,7 @@ pub fields_say-ascending : (s : State) (n : ℕ) (fields : Record) (cells : Cell
 fields_say-ascending s n fields cells said =
     increasing_from_rising (place n 0) (map (λ e. e.0) cells) (fields_say-rising s n 0 fields cells said)
 
--- and lie in its row
+-- the cells of a record lie in its row
 pub fields_say-under : (s : State) (n j : ℕ) (fields : Record) (cells : Cells) → FieldsSay s n j fields cells
     → Under (place (n + 1) 0) (map (λ e. e.0) cells)
 unfolding FieldsSay FieldSays

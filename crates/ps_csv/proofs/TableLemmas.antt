@@ -198,13 +198,13 @@ reading_stops s bytes a b t row e on gave fault =
       })
     ]
 
--- what is said of the fault of a text that `csv` gave no record of: memory, or that its reader failed
+-- the fault of a text for which `csv` returned an error instead of a record: memory, or its reader failed
 pub record IsOfCsv (s : State) (bytes : List ℕ) (f : ImportFault) : Type 0 where
   pub fault : IfNone f.reader_error ((f.refusal ≡ Memory) ⊎ FirstFault s bytes f.refusal)
   pub reader : IfSome f.reader_error (λ error. (f.refusal ≡ Csv) × ReaderFails s bytes error)
   pub none : f.applied ≡ 0
 
--- an error of `csv` that isn't of memory says that what it reads from failed
+-- an error of `csv` that isn't out of memory says that reading from its source failed
 explained : (s : State) (bytes : List ℕ) (a b : ByteRecordsIntoIter (Bor (List ℕ))) (t : Table) (kind : ErrorKind)
     (error : Error)
     → error_kind error ≡ kind

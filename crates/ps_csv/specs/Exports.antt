@@ -1,4 +1,4 @@
--- The table that a rectangle makes, as `csv` writes it: of what its cells show, or of what they hold.
+-- The table that is exported from a rectangle, as `csv` writes it: what the cells show, or what they hold.
 use Rattle.std.specs.Prelude.{◌≡◌, ◌⊎◌, ℕ, ◌<◌, List, map, length, take, Option, Result, ⊤, IfErr, OnOk}
 use Rattle.std.specs.Io.KnownBytes.{Appends}
 use Rattle.std.specs.List.{flat_map, range_with_len}
@@ -41,7 +41,7 @@ exported v a = tabled (λ c. shown_text (v c)) a
 abbrev pub Holdings : Type 0
 Holdings = ℕ → Content
 
--- what each cell's register holds once these deltas were accepted; blank where nothing was assigned to it
+-- what each cell's register holds after these deltas; blank for a cell that nothing was assigned to
 abbrev pub held_in : List Entries → Holdings
 held_in history c = content_of (joined_history history c)
 
@@ -53,8 +53,8 @@ entry_text held c = canonical_text (held c)
 abbrev pub exported_entries : Holdings → Area → List ℕ
 exported_entries held a = tabled (entry_text held) a
 
--- WRITES OUT: what it comes to when this text is to be written. It was written, all of it; or memory ran out, and
--- nothing was written; or the sink failed, and a beginning was written. The sink was `old` and is `new`
+-- WRITES OUT: how writing this text ends. The whole text was written; or memory ran out, and nothing was written; or
+-- the sink failed, and a beginning was written. The sink was `old` and is `new`
 pub record WritesOut {K : Type 0} (contents : K → Option (List ℕ)) (failures : K → ℕ) (text : List ℕ) (old new : K)
     (result : Result ⊤ Refusal) : Type 0 where
   pub written : OnOk result (Appends (contents old) (contents new) text)

@@ -1,4 +1,4 @@
--- Why a table isn't taken in.
+-- Why the import of a table fails.
 use Rattle.std.specs.Prelude.{◌≡◌, ◌≢◌, ◌⊎◌, ℕ, ◌<◌, ◌≤◌, true, List, [], ◌∷◌, ◌++◌, length, Option, None, Ok, Err}
 use Rattle.std.specs.Io.KnownBytes.{Consumes}
 use Rattle.csv.specs.Reading.{error_kind, is_io}
@@ -15,13 +15,14 @@ use Rattle.ps_csv.specs.declared.fault.ImportFault.{ImportFault}
 use Rattle.ps_csv.specs.Imports.{ReadToEnd}
 use Rattle.ps_csv.specs.Records.{BeginsTable, Cells, FieldsSay, Record, RecordsSay, place}
 
--- TOO MANY BYTES: those that were taken out of the source so far are more than a table may have
+-- TOO MANY BYTES: more bytes were read from the source than a table may have
 pub record TooManyBytes (old new : Option (List ℕ)) : Type 0 where
   pub bytes : List ℕ
   pub consumed : Consumes old new bytes
   pub beyond : LONGEST_TABLE < length bytes
 
--- the refusal of a field for the cell c: that of its entry, or else the register's, where that has the last time
+-- e is the refusal of a field for the cell c: that of its entry, or else ClockFull if the cell's register has the last
+-- time
 unfoldable pub EntryFault : State → ℕ → List ℕ → Refusal → Type 0
 EntryFault s c [] e = ⊥
 EntryFault s c (b ∷ bs) e =
@@ -29,11 +30,11 @@ EntryFault s c (b ∷ bs) e =
     ⊎ ((content : Content) × Reads (kind_of (b ∷ bs)) (b ∷ bs) (Ok content) × (is_clock_full (s c) ≡ true)
     × (e ≡ ClockFull))
 
--- the refusal of field j of record n; one past the last column is refused whatever it holds
+-- e is the refusal of field j of record n; a field past the last column is refused whatever it holds
 abbrev pub FieldFault : State → ℕ → ℕ → List ℕ → Refusal → Type 0
 FieldFault s n j field e = ((COLUMNS ≤ j) × (e ≡ Csv)) ⊎ ((j < COLUMNS) × EntryFault s (place n j) field e)
 
--- the first fault of record n: its field's, after fields that have none
+-- e is the first fault of record n: that of a field after fields that have none
 pub record RecordFault (s : State) (n : ℕ) (fields : Record) (e : Refusal) : Type 0 where
   pub before : Record
   pub field : List ℕ
@@ -43,7 +44,7 @@ pub record RecordFault (s : State) (n : ℕ) (fields : Record) (e : Refusal) : T
   pub said : FieldsSay s n 0 before cells
   pub fault : FieldFault s n (length before) field e
 
--- the first fault of a record after others; one past the last row is refused whatever its fields hold
+-- e is the first fault of the record `here`, the n-th; a record past the last row is refused whatever its fields hold
 abbrev pub NextFault : State → ℕ → Record → Refusal → Type 0
 NextFault s n here e = ((ROWS ≤ n) × (e ≡ Csv)) ⊎ ((n < ROWS) × RecordFault s n here e)
 
@@ -56,8 +57,9 @@ pub record FirstFault (s : State) (bytes : List ℕ) (e : Refusal) : Type 0 wher
   pub said : RecordsSay s 0 before batches
   pub fault : NextFault s (length before) here e
 
--- CSV'S OWN READER FAILED with this error after the first records, which have no fault: it says that what it reads from
--- failed. No word of `csv` rules that out of bytes in memory; it rules out each of its other errors, but that of memory
+-- CSV'S OWN READER FAILED with this error after the first records, which have no fault: the error says that reading
+-- from its source failed. The source is bytes in memory, but no contract of `csv` excludes this error for them. Its
+-- contracts exclude all other errors except out of memory
 pub record ReaderFails (s : State) (bytes : List ℕ) (error : Error) : Type 0 where
   pub before : List Record
   pub batches : List Cells
@@ -65,7 +67,7 @@ pub record ReaderFails (s : State) (bytes : List ℕ) (error : Error) : Type 0 w
   pub said : RecordsSay s 0 before batches
   pub of_source : is_io (error_kind error) ≡ true
 
--- all bytes of a source that had `old` were taken out of it, a table may have so many, and P holds of them
+-- a source with the bytes `old` was read to its end, a table may have so many bytes, and P holds of them
 abbrev pub WholeTable : Option (List ℕ) → Option (List ℕ) → (List ℕ → Type 0) → Type 0
 WholeTable old new P = ReadToEnd old new (λ bytes. (length bytes ≤ LONGEST_TABLE) × P bytes)
 
@@ -75,10 +77,10 @@ TableFault s old new e =
     (e ≡ Memory) ⊎ (e ≡ Device) ⊎ ((e ≡ Csv) × TooManyBytes old new)
     ⊎ WholeTable old new (λ bytes. FirstFault s bytes e)
 
--- .. or it is refused since `csv`'s own reader failed
+-- a source's table is refused because `csv`'s own reader failed
 abbrev pub TableReaderFails : State → Option (List ℕ) → Option (List ℕ) → Refusal → Error → Type 0
 TableReaderFails s old new e error = (e ≡ Csv) × WholeTable old new (λ bytes. ReaderFails s bytes error)
 
--- the fault of a refusal with nothing taken in
+-- the fault of a refusal with nothing assigned
 abbrev pub refused_as : Refusal → ImportFault
 refused_as refusal = record { refusal = refusal; applied = 0; reader_error = None }

@@ -9,23 +9,23 @@ use Rattle.ps_delta.specs.declared.edit.Edit.TheVariants.{SetAll}
 use Rattle.ps_csv.specs.declared.bytes.TheConstants.{LONGEST_TABLE}
 use Rattle.ps_csv.specs.Records.{Cells, IsTable, Record, RecordsSay, most_fields}
 
--- all bytes of a source that had `old` were taken out of it, and P holds of them
+-- a source with the bytes `old` was read to its end, and P holds of these bytes
 abbrev pub ReadToEnd : Option (List ℕ) → Option (List ℕ) → (List ℕ → Type 0) → Type 0
 ReadToEnd old new P = (bytes : List ℕ) × Consumes old new bytes × IsAtEnd new × P bytes
 
--- so many records and so many fields lie in the grid, and each record has a field
+-- a table of so many records, with at most so many fields in each, lies in the grid, and each record has a field
 abbrev pub LieInGrid : ℕ → ℕ → Type 0
 LieInGrid records fields = (records ≤ ROWS) × (fields ≤ COLUMNS) × (0 < records → 0 < fields)
 
--- ASSIGNED at replica r: the history h grew to k by the delta of one edit of all its cells for each list that has any,
--- in order, and by nothing else
+-- ASSIGNED at replica r: the history h grew to k by one edit for each list that has any cells, in order, and by nothing
+-- else. The edit assigns to all cells of the list
 unfoldable pub Assigned : ℕ → List Entries → List Cells → List Entries → Type 0
 Assigned r h [] k = k ≡ h
 Assigned r h ([] ∷ batches) k = Assigned r h batches k
 Assigned r h ((cell ∷ cells) ∷ batches) k = (delta : Entries)
     × (delta_of_edit r (joined_history h) (SetAll (cell ∷ cells)) ≡ Ok delta) × Assigned r (h ++ delta ∷ []) batches k
 
--- the table of the bytes was taken in, with this number of records and at most this many fields in one
+-- the table of the bytes was imported; it has this number of records, and this is the greatest number of their fields
 pub record ImportsTable (bytes : List ℕ) (records fields : ℕ) (old new : SheetView) : Type 0 where
   pub table : List Record
   pub batches : List Cells
@@ -36,7 +36,7 @@ pub record ImportsTable (bytes : List ℕ) (records fields : ℕ) (old new : She
   pub records_are : records ≡ length table
   pub fields_are : fields ≡ most_fields table
 
--- only the first records of the table were taken in, this many
+-- only the first records of the table were assigned, `applied` of them
 pub record StopsAfter (bytes : List ℕ) (applied : ℕ) (old new : SheetView) : Type 0 where
   pub table : List Record
   pub batches : List Cells

@@ -1,4 +1,4 @@
--- What the private functions say of what is on its way; no contract of a public one cites this.
+-- What the contracts of private functions say; no public contract cites these.
 use Rattle.std.specs.Prelude.{◌≡◌, ◌==◌, ◌&&◌, ◌||◌, ◌++◌, ℕ, List, map, length, true, false, not, Some, None}
 use Rattle.std.specs.Borrow.{Bor}
 use Rattle.std.specs.Global.{Vec}

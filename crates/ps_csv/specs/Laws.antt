@@ -7,8 +7,8 @@ use Rattle.ps_csv.specs.Exports.{Holdings, entry_text, exported_entries, held_in
 use Rattle.ps_csv.specs.Imports.{ImportsTable}
 use Rattle.ps_csv.specs.Records.{place}
 
--- LAW: the entries of a rectangle, taken into an empty sheet as a table, are the entries of its cells there, from the
--- first cell of the grid on
+-- LAW: the entries of a rectangle are exported as a table, and the table is imported into an empty sheet. Then the
+-- sheet has the same entries, in a rectangle of the same size that begins at the first cell of the grid
 abbrev pub EntriesComeBack : Type 0
 EntriesComeBack =
     (held : Holdings) (a : Area) (records fields : ℕ) (old new : SheetView) → ((c : ℕ) → IsContent (held c))

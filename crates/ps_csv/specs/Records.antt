@@ -44,7 +44,7 @@ RecordsSay s n (record_n ∷ table) batches = (here : Cells) × (others : List C
 abbrev pub IsTable : List ℕ → List Record → Type 0
 IsTable bytes table = AreRecords default_config reader.StartRecord (strip_bom bytes) table
 
--- .. and these are the first ones
+-- these are the first records of a text, as `csv` reads them with no header row
 abbrev pub BeginsTable : List ℕ → List Record → Type 0
 BeginsTable bytes table =
     (state : ReaderState) × (rest : List ℕ) × Reached default_config reader.StartRecord (strip_bom bytes) table

@@ -1,4 +1,4 @@
--- What it comes to when a table is to be taken in.
+-- How the import of a table ends.
 use Rattle.std.specs.Prelude.{◌≡◌, ◌≢◌, ℕ, ◌<◌, List, Option, Result, IfOk, IfErr, IfNone, IfSome, OnOk}
 use Rattle.ps_grid.specs.declared.refusal.Refusal.TheVariants.{Device, Memory}
 use Rattle.ps_delta.specs.Deltas.{joined_history}
@@ -8,10 +8,10 @@ use Rattle.ps_csv.specs.declared.incoming.Imported.{Imported}
 use Rattle.ps_csv.specs.Faults.{TableFault, TableReaderFails}
 use Rattle.ps_csv.specs.Imports.{ImportsTable, LieInGrid, ReadToEnd, StopsAfter}
 
--- TAKES IN: what it comes to when the table of a source is to be taken into a sheet. It was taken in, all of it; or it
--- is refused for its cause, and nothing was assigned, but where memory ran out amid the records: then the records
--- before that stand. The source was `before` and is `after`, the sheet was `old` and is `new`, and a meter had counted
--- `counted_before` evaluations and has counted `counted_after`
+-- TAKES IN: how the import of a source's table into a sheet ends. The whole table was imported. Or the import failed
+-- for the stated reason, and nothing was assigned, with one exception: if memory ran out amid the records, the records
+-- before stay assigned. The source was `before` and is `after`, and the sheet was `old` and is `new`. A meter had
+-- counted `counted_before` evaluations, and now has counted `counted_after`
 pub record TakesIn {S : Type 0} (remaining : S → Option (List ℕ)) (failures : S → ℕ) (before after : S)
     (old new : SheetView) (counted_before counted_after : ℕ) (result : Result Imported ImportFault) : Type 0 where
   pub imported : IfOk result (λ i. ReadToEnd (remaining before) (remaining after)

@@ -23,7 +23,7 @@ use std::alloc::Global;
 use std::sync::ledger::Ledger;
 use std::thread::Threads;
 
-/// Assigns the contents of each record, one record after another, and settles the sheet once, after the last.
+/// Assigns the contents of each record, one record after another, and recalculates the sheet once, after the last.
 pub(crate) fn apply<R: Threads + Sync, L: Ledger>(
     rt: &R,
     alloc: Global,
@@ -66,7 +66,7 @@ fn has_none(batches: &Vec<Vec<(Cell, Content)>>) -> bool
     batches.is_empty()
 }
 
-/// Appends the deltas that were made, and settles the sheet once. Does nothing if there are none.
+/// Appends the deltas that were made, and recalculates the sheet once. Does nothing if there are none.
 fn settle<R: Threads + Sync, L: Ledger>(
     rt: &R,
     alloc: Global,
@@ -93,8 +93,8 @@ fn settle<R: Threads + Sync, L: Ledger>(
     }
 }
 
-/// Makes the delta of each record that has contents, after those of the records before it. If allocation fails, the
-/// deltas made so far stand, and the fault counts their records.
+/// Adds to `arrivals` the delta of each record that has contents, in order. If allocation fails, the deltas made so far
+/// stay there, and the fault counts their records.
 fn make_all(
     alloc: Global,
     sheet: &Sheet,
@@ -132,7 +132,7 @@ fn make_all(
     Ok(())
 }
 
-/// Makes the delta of one record, if it has any contents.
+/// Adds the delta of one record to `arrivals`, if the record has any contents.
 fn assign(
     alloc: Global,
     replica: u8,

@@ -8,13 +8,14 @@ use ps_device::{Failed, PIECE_BYTES, Source};
 use ps_grid::{CELLS, Refusal};
 use std::alloc::Global;
 
-/// The bytes of a table for each cell of the grid: an entry has at most 512, and the rest is for quotes and a comma.
+/// The bytes of a table that are allowed for each cell of the grid: 512 for the longest entry, the rest for quotes and
+/// a comma.
 const BYTES_PER_CELL: usize = 640;
 
-/// The most bytes of a table: 68,157,440. It depends on the size of the grid alone, and no other limit depends on it.
+/// The most bytes that an imported table may have: 68,157,440, which is 640 for each cell of the grid.
 pub const LONGEST_TABLE: usize = BYTES_PER_CELL * CELLS;
 
-/// The bytes of the source, to its end. Reading stops once there are too many.
+/// The bytes of the source, to its end. Fails with `Csv` as soon as there are more than `LONGEST_TABLE`.
 pub(crate) fn read_all<S: Source>(alloc: Global, source: &mut S) -> Result<Vec<u8>, Refusal>
     ensures read { IfOk result (λ bytes.
         Consumes (S.remaining source.old) (S.remaining source.new) bytes.items × IsAtEnd (S.remaining source.new)) }

@@ -1,4 +1,4 @@
-//! A rectangle of entries as a table.
+//! The export of entries, the canonical texts of what cells hold.
 
 ghost use Rattle.std.specs.Prelude.{◌≡◌, ◌++◌, IfOk, IfErr, OnOk};
 ghost use Rattle.ps_csv.specs.Exports.{WritesOut, entry_text, exported_entries};
@@ -10,7 +10,7 @@ use ps_grid::{Cell, Rect, Refusal};
 use std::alloc::Global;
 use std::sync::ledger::Ledger;
 
-/// Writes the entries of a rectangle, the canonical texts of what its cells hold, as a table.
+/// Writes the entries of a rectangle, the canonical texts of what its cells hold, as a CSV table.
 ///
 /// Each row is a record, each cell a field, and LF ends each record.
 ///
@@ -19,7 +19,7 @@ use std::sync::ledger::Ledger;
 /// - `Memory` if allocation fails; nothing was written then.
 /// - `Device` if the sink fails; a beginning of the text was written then.
 ///
-/// Cost: c + b, for c cells of the rectangle and b bytes of the text, which is built in memory before it is written.
+/// Cost: linear in the cells of the rectangle and the bytes of the text, which is built in memory before it is written.
 pub fn export_entries<H: Holds, K: Sink>(
     alloc: Global,
     holds: &H,
@@ -31,11 +31,11 @@ pub fn export_entries<H: Holds, K: Sink>(
     export_rows(alloc, &EntryTexts { holds }, rect, sink)
 }
 
-/// Returns the text that `export_entries` writes, for a caller that needs it before it writes anything.
+/// Returns the text that [`export_entries`] writes, for a caller that needs the whole text before it writes anything.
 ///
 /// Fails only when out of memory.
 ///
-/// Cost: c + b, for c cells of the rectangle and b bytes of the text, and memory for b bytes.
+/// Cost: linear in the cells of the rectangle and the bytes of the text.
 pub fn entries_text<H: Holds>(alloc: Global, holds: &H, rect: Rect) -> Result<Vec<u8>, Refusal>
     ensures text { IfOk result (λ t. t.items ≡ exported_entries (H.held_at holds.now) rect) }
     ensures memory { IfErr result (λ e. e ≡ Refusal.Memory) }
@@ -43,11 +43,11 @@ pub fn entries_text<H: Holds>(alloc: Global, holds: &H, rect: Rect) -> Result<Ve
     rows_text(alloc, &EntryTexts { holds }, rect)
 }
 
-/// Returns the entry of a cell: the canonical text of what it holds.
+/// Returns the entry of a cell: the canonical text of what it holds, empty if it holds nothing.
 ///
 /// Fails only when out of memory.
 ///
-/// Cost: the bytes of the text, and memory for them.
+/// Cost: the bytes of the text.
 pub fn entry_of<H: Holds>(alloc: Global, holds: &H, cell: Cell) -> Result<Vec<u8>, Refusal>
     ensures text { IfOk result (λ t. t.items ≡ entry_text (H.held_at holds.now) cell) }
     ensures memory { IfErr result (λ e. e ≡ Refusal.Memory) }
@@ -57,7 +57,7 @@ pub fn entry_of<H: Holds>(alloc: Global, holds: &H, cell: Cell) -> Result<Vec<u8
     Ok(text)
 }
 
-/// Appends the entry of a cell.
+/// Appends the entry of a cell to `text`.
 fn append_entry<H: Holds>(holds: &H, cell: Cell, text: &mut Vec<u8>) -> Result<(), Refusal>
     ensures appended { OnOk result (text.new.items ≡ text.old.items ++ entry_text (H.held_at holds.now) cell) }
     ensures memory { IfErr result (λ e. e ≡ Refusal.Memory) }
@@ -68,7 +68,7 @@ fn append_entry<H: Holds>(holds: &H, cell: Cell, text: &mut Vec<u8>) -> Result<(
     }
 }
 
-/// The entries of cells, as fields of records.
+/// Gives each cell its entry as the text of its field.
 #[derive(Drop)]
 struct EntryTexts<'a, H: Holds> {
     holds: &'a H,

@@ -1,4 +1,4 @@
-//! Why a table isn't taken in.
+//! Why an import fails.
 
 ghost use Rattle.std.specs.Prelude.{◌≡◌};
 ghost use Rattle.csv.specs.Reading.{error_kind};
@@ -8,14 +8,14 @@ ghost use Rattle.ps_csv.specs.Inside.{fault_of_kind};
 use csv::{Error, ErrorKind};
 use ps_grid::Refusal;
 
-/// Why a table wasn't taken in, and how many of its records were.
+/// Why an import failed, and how many records it had assigned by then.
 #[derive(Debug, Drop)]
 pub struct ImportFault {
     /// The reason.
     pub refusal: Refusal,
-    /// The number of records that were taken in and stand: above 0 only when out of memory.
+    /// The number of records that were assigned and stay so, counted from the first: above 0 only when out of memory.
     pub applied: usize,
-    /// The error of `csv`'s own reader, if it failed without a fault of the table; only `csv` can make it.
+    /// The error of `csv`'s own reader, if that failed before any fault of the table. `None` for all other faults.
     pub reader_error: Option<Error>,
 }
 
@@ -31,7 +31,7 @@ impl From<Refusal> for ImportFault {
     }
 }
 
-/// The fault for an error of `csv`: out of memory, or a failure of its reader.
+/// The fault for an error of `csv`: out of memory, or a failure of `csv`'s reader.
 pub(crate) fn fault_of(error: Error) -> ImportFault
     ensures { result ≡ fault_of_kind (error_kind error) error }
 {

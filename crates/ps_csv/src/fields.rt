@@ -1,4 +1,4 @@
-//! The fields of a record as entries.
+//! The fields of a record, read as entries of cells.
 
 ghost use Rattle.std.specs.Prelude.{◌≡◌, ◌⊎◌, ℕ, ◌+◌, ◌*◌, ◌<◌, ◌++◌, List, IfOk, IfErr, OnOk};
 ghost use Rattle.std.specs.Option.{SomeIff};
@@ -15,7 +15,7 @@ use ps_grid::{COLUMNS, Cell, Refusal};
 use ps_sheet::Sheet;
 use std::alloc::Global;
 
-/// The contents that the fields of record n give their cells, in order.
+/// The contents that the fields of record `n`, counted from 0, give the cells of row `n`, from left to right.
 pub(crate) fn read_record<W: TableWatcher>(
     alloc: Global,
     sheet: &Sheet,
@@ -41,7 +41,7 @@ pub(crate) fn read_record<W: TableWatcher>(
     Ok(cells)
 }
 
-/// Appends the content that a field gives its cell, if the field isn't empty.
+/// Appends `cell` and the content that its field says, if the field isn't empty.
 fn take_field<W: TableWatcher>(
     alloc: Global,
     sheet: &Sheet,
@@ -73,7 +73,7 @@ fn take_field<W: TableWatcher>(
     Ok(())
 }
 
-/// The cell of field j of record n; none past the last column.
+/// The cell of field `j` of record `n`, both counted from 0; `None` past the last column.
 fn cell_of(n: usize, j: usize) -> Option<Cell>
     requires { n < ROWS }
     ensures { SomeIff result (j < COLUMNS) (place n j) }

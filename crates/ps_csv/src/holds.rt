@@ -1,4 +1,4 @@
-//! Where the contents of cells come from.
+//! What an export of entries reads: the contents of cells.
 
 ghost use Rattle.std.specs.Prelude.{◌≡◌, unwrap_or};
 ghost use Rattle.std.specs.Option.{option_copied};
@@ -8,14 +8,15 @@ use ps_content::Content;
 use ps_grid::Cell;
 use ps_sheet::Sheet;
 
-/// A type that knows what each cell's register holds.
+/// A type that knows what each cell holds, a sheet for example. [`crate::export_entries`] reads it.
 pub trait Holds {
     ghost use Rattle.ps_csv.specs.Exports.{Holdings};
 
-    /// What each cell's register holds; blank where nothing was assigned to it.
+    /// What each cell holds, for contracts; `Blank` for a cell that nothing was assigned to.
     ghost held_at: { Self → Holdings };
 
-    /// Returns what a cell's register holds; none if nothing was assigned to it.
+    /// Returns what a cell holds. `None` means the same as `Blank`; a sheet returns it for a cell that nothing was
+    /// assigned to.
     fn held(&self, cell: Cell) -> Option<&Content>
         ensures { unwrap_or (option_copied result) blank ≡ held_at self.now cell };
 }

@@ -1,4 +1,4 @@
-//! A table of entries into a sheet.
+//! The import of a table of entries into a sheet.
 
 ghost use Rattle.std.specs.Prelude.{◌≡◌, ◌≢◌, ◌⊎◌, ◌<◌, ◌≤◌, ℕ, List, length, IfOk, IfErr, IfNone, IfSome, OnOk};
 ghost use Rattle.std.specs.Io.KnownBytes.{Consumes, IsAtEnd};
@@ -23,7 +23,7 @@ use std::alloc::Global;
 use std::sync::ledger::Ledger;
 use std::thread::Threads;
 
-/// The size of a table that was taken in.
+/// The size of a table that was imported.
 #[derive(Clone, Copy, Debug, PartialEq, Eq)]
 pub struct Imported {
     /// The number of records.
@@ -32,13 +32,14 @@ pub struct Imported {
     pub fields: usize,
 }
 
-/// Takes a table of entries into the sheet, and returns its size.
+/// Imports a CSV table of entries into the sheet, and returns the table's size.
 ///
 /// Field j of record n is an entry for the cell in column j and row n, and an empty field leaves its cell as it is.
-/// Each record with a field that isn't empty is one edit. The source is read to its end, and all fields are checked
-/// before anything is assigned.
+/// Each record with a field that isn't empty becomes one edit. The source is read to its end, and all fields are
+/// checked, before anything is assigned.
 ///
-/// It is part of the public interface. The program calls [`import_watched`], whose watcher reports hints.
+/// The program calls [`import_watched`] instead, whose watcher reports hints. This function is part of the public
+/// interface.
 ///
 /// # Errors
 ///
@@ -47,16 +48,16 @@ pub struct Imported {
 /// - `Device` if the source fails.
 /// - `Csv` if the source has more than `LONGEST_TABLE` bytes.
 /// - The first field or record at fault in reading order: `Csv` for a record past the last row or a field past the last
-///   column, the refusal of `read_entry`, or `ClockFull` if the cell's register has the last time.
+///   column, the refusal of `read_entry`, or `ClockFull` if the cell's register has the last time, `LAST_TIME`.
 ///
-/// The reader of `csv` may fail by itself, even over bytes in memory: `csv` leaves that open. That is `Csv` too, with
-/// the error as `reader_error`, which no other fault has.
+/// The contracts of `csv` don't exclude that its reader fails by itself, even over bytes in memory. That is `Csv` too,
+/// with the error as `reader_error`, which no other fault has.
 ///
-/// In place of any of these it returns `Memory` if allocation fails. Nothing is assigned after a refusal, with one
-/// exception. If allocation fails while the edits' deltas are made, the records before stand, `applied` of them.
+/// Instead of any of these, `Memory` is returned if allocation fails. Nothing is assigned if the import fails, with one
+/// exception: if allocation fails while the edits' deltas are made, the first `applied` records stay assigned.
 ///
-/// Cost: b + e, for b bytes of the source and the cost e of one edit of all cells that are assigned, whose values are
-/// settled once. Also the cost of the cells that the sheet had. Memory for b bytes and twice their contents.
+/// Cost: linear in the bytes of the source, plus that of one edit of all cells that are assigned, and that of copying
+/// the sheet's state. Memory for the bytes, and twice for the contents that they say.
 pub fn import<R: Threads + Sync, S: Source, L: Ledger>(
     rt: &R,
     alloc: Global,
@@ -69,10 +70,10 @@ pub fn import<R: Threads + Sync, S: Source, L: Ledger>(
     import_watched(rt, alloc, source, sheet, meter, &mut UnwatchedTable)
 }
 
-/// Takes a table of entries into the sheet as [`import`] does, and shows a watcher what is read.
+/// Imports a CSV table of entries into the sheet as [`import`] does, and shows a watcher what is read.
 ///
-/// The watcher sees each field that isn't empty, up to the first that is refused. It also sees a record past the last
-/// row or with a field past the last column.
+/// The watcher sees each field that isn't empty, up to and including the first that is refused. It also sees a record
+/// past the last row or with a field past the last column.
 ///
 /// Cost: that of [`import`], and the watcher's own.
 pub fn import_watched<R: Threads + Sync, S: Source, L: Ledger, W: TableWatcher>(
@@ -97,7 +98,7 @@ pub fn import_watched<R: Threads + Sync, S: Source, L: Ledger, W: TableWatcher>(
     }
 }
 
-/// The contents of the source's table, if nothing of it is at fault.
+/// The contents that the source's table says, or the first fault of the source and its table.
 fn checked<S: Source, W: TableWatcher>(
     alloc: Global,
     source: &mut S,
@@ -120,7 +121,7 @@ fn checked<S: Source, W: TableWatcher>(
         → S.failures source.new ≡ S.failures source.old) }
     ensures sheet { IsSheet sheet.now }
 {
-    // for the fact that the sheet is one (`IsSheet`), which `version` states
+    // for the fact `IsSheet`, which the contract of `version` states
     let _ = sheet.version();
     let bytes = match read_all(alloc, source) {
         Ok(bytes) => bytes,

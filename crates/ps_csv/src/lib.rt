@@ -1,22 +1,23 @@
-//! Tables: entries of a table of CSV into a sheet, and the values of a rectangle as a table of CSV.
+//! CSV tables: imports a table's entries into a sheet, and exports what the cells of a rectangle show or hold.
 //!
-//! It is not a session: it knows no lines and no replies. It leaves to `csv` what a table's text is.
+//! It is not a session: it knows no lines and no replies. The crate `csv` parses and writes the text of a table.
 //!
 //! Use the contracts of [`import`] and [`export`]:
 //!
 //! - After [`import`] returns Ok, the sheet's history has grown by one edit for each record with a field that isn't
 //!   empty, in order, and by nothing else.
-//! - A refusal is out of memory, a device, too many bytes, or exactly the first fault of the table in reading order.
-//!   Nothing is assigned then, with one exception: if allocation fails while the edits' deltas are made, the records
-//!   before stand, and the fault counts them.
+//! - It fails when out of memory, if reading the source fails, if the source has too many bytes, or with exactly the
+//!   first fault of the table in reading order. Nothing is assigned then, with one exception: if allocation fails while
+//!   the edits' deltas are made, the records before stay assigned, and the fault counts them.
 //! - An error of `csv`'s own reader is marked in the fault ([`ImportFault`]).
 //! - [`export`] writes what the cells show as `csv` writes it, or a beginning of that if the sink fails.
+//! - [`export_entries`] does the same for the entries, the canonical texts of what the cells hold.
 //!
 //! The table of `2,=[.A1]*3` and `"x,y",@tally` gives A1 the number 2, B1 the formula, A2 the text `x,y` and B2 a
 //! counter, by two edits. The rectangle from A1 to B2 is then written as `2,6` and `"x,y",0`.
 //!
-//! Cost: linear in the bytes of the text, which is in memory as a whole either way. An import makes an edit for each
-//! record, and settles the sheet once, after the last.
+//! Cost: linear in the bytes of the text, which imports and exports hold in memory as a whole. An import makes an edit
+//! for each record, and recalculates the sheet once, after the last.
 #![tactic(auto)]
 
 mod apply;

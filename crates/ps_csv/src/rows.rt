@@ -1,4 +1,4 @@
-//! A rectangle as a table: a record for each row, a field for each cell.
+//! The text of a rectangle as a CSV table: a record for each row, a field for each cell.
 
 ghost use Rattle.std.specs.Prelude.{◌≡◌, ◌<◌, ◌∷◌, ◌++◌, [], ℕ, List, length, IfOk, IfErr, OnOk};
 ghost use Rattle.ps_grid.specs.Blanks.{IsBlankOf};
@@ -15,18 +15,18 @@ use std::alloc::Global;
 use std::marker::Brand;
 use std::sync::ledger::{Blank, Ledger};
 
-/// A type that has a text for each cell.
+/// A type that has a text for each cell, which becomes the cell's field.
 pub(crate) trait CellText {
     /// The text of each cell.
     ghost text_at: { Self → CellTexts };
 
-    /// Puts the text of a cell after the sink's bytes. Fails only when out of memory.
+    /// Appends the text of a cell to the sink's bytes. Fails only when out of memory.
     fn put<L: Ledger>(&self, cell: Cell, text: &mut MemorySink<L>) -> Result<(), Refusal>
         ensures put { OnOk result (text.new.bytes.items ≡ text.old.bytes.items ++ text_at self.now cell) }
         ensures memory { IfErr result (λ e. e ≡ Refusal.Memory) };
 }
 
-/// Writes the table of the texts of a rectangle's cells.
+/// Writes to `sink` the table of the texts of a rectangle's cells.
 pub(crate) fn export_rows<T: CellText, K: Sink>(
     alloc: Global,
     texts: &T,
@@ -54,7 +54,7 @@ pub(crate) fn rows_text<T: CellText>(
     text_with::<T, Brand>(Blank::new(1), alloc, texts, rect)
 }
 
-/// The table, with a ledger for the sink that the fields are put into.
+/// The table, as [`rows_text`] returns it. `L` counts the failures of the sink in memory that each field is written to.
 fn text_with<T: CellText, L: Ledger>(
     blank: Blank,
     alloc: Global,
@@ -73,14 +73,14 @@ fn text_with<T: CellText, L: Ledger>(
     finish(writer)
 }
 
-/// A writer that has written nothing.
+/// A writer of `csv` that has written nothing.
 fn new_writer(alloc: Global) -> Writer<Vec<u8>>
     ensures { HasWritten result [] }
 {
     WriterBuilder::new().from_writer(Vec::new(alloc))
 }
 
-/// Writes the record of the texts of the k-th row's cells.
+/// Writes the record of the rectangle's row `k`, counted from 0. `field` is room for the text of one field.
 fn put_row<T: CellText, L: Ledger>(
     texts: &T,
     rect: Rect,
@@ -102,7 +102,7 @@ fn put_row<T: CellText, L: Ledger>(
     }
 }
 
-/// Writes the text of a cell as one more field of a record.
+/// Writes the text of a cell as the next field of the record. `field` is room for the text.
 fn put_field<T: CellText, L: Ledger>(
     texts: &T,
     cell: Cell,
@@ -122,7 +122,7 @@ fn put_field<T: CellText, L: Ledger>(
     }
 }
 
-/// The text that was written.
+/// The text that the writer has written.
 fn finish(writer: Writer<Vec<u8>>) -> Result<Vec<u8>, Refusal>
     ensures text { IfOk result (λ t. (text : List ℕ) → HasWritten writer text → t.items ≡ text) }
     ensures memory { IfErr result (λ e. e ≡ Refusal.Memory) }
@@ -133,11 +133,12 @@ fn finish(writer: Writer<Vec<u8>>) -> Result<Vec<u8>, Refusal>
     }
 }
 
-/// The refusal for an error of the writer of a table: out of memory.
+/// The refusal for an error of `csv`'s writer: out of memory.
 ///
-/// No clause of `csv` says so. Its writer raises the errors of what it writes to, and `UnequalLengths`. It writes to a
-/// `Vec`, whose `write` fails as `OutOfMemory` alone (`kind`, of std) and whose `flush` doesn't fail (`ok`). All
-/// records of a rectangle have as many fields.
+/// No contract of `csv` states that it can't be another error. The writer fails with the errors of what it writes to,
+/// and with `UnequalLengths`. Here it writes to a `Vec`. The contract of std states that its `write` fails only as
+/// `OutOfMemory` (clause `kind`), and that its `flush` doesn't fail (clause `ok`). All records of a rectangle have the
+/// same number of fields.
 fn refusal_of(_error: Error) -> Refusal
     ensures { result ≡ Refusal.Memory }
 {

@@ -1,4 +1,4 @@
-//! A rectangle of shown values as a table.
+//! The export of shown values.
 
 ghost use Rattle.std.specs.Prelude.{◌≡◌, IfOk, IfErr};
 ghost use Rattle.ps_value.specs.Shown.{shown_text};
@@ -12,7 +12,7 @@ use ps_value::write_shown;
 use std::alloc::Global;
 use std::sync::ledger::Ledger;
 
-/// Writes the shown values of a rectangle as a table.
+/// Writes the shown values of a rectangle as a CSV table.
 ///
 /// Each row is a record, each cell a field, and LF ends each record.
 ///
@@ -21,7 +21,7 @@ use std::sync::ledger::Ledger;
 /// - `Memory` if allocation fails; nothing was written then.
 /// - `Device` if the sink fails; a beginning of the text was written then.
 ///
-/// Cost: c + b, for c cells of the rectangle and b bytes of the text, which is built in memory before it is written.
+/// Cost: linear in the cells of the rectangle and the bytes of the text, which is built in memory before it is written.
 pub fn export<G: Look, K: Sink>(
     alloc: Global,
     look: &G,
@@ -33,11 +33,11 @@ pub fn export<G: Look, K: Sink>(
     export_rows(alloc, &ShownTexts { look }, rect, sink)
 }
 
-/// Returns the text that `export` writes, for a caller that needs it before it writes anything.
+/// Returns the text that [`export`] writes, for a caller that needs the whole text before it writes anything.
 ///
 /// Fails only when out of memory.
 ///
-/// Cost: c + b, for c cells of the rectangle and b bytes of the text, and memory for b bytes.
+/// Cost: linear in the cells of the rectangle and the bytes of the text.
 pub fn exported_text<G: Look>(alloc: Global, look: &G, rect: Rect) -> Result<Vec<u8>, Refusal>
     ensures text { IfOk result (λ t. t.items ≡ exported (G.value_at look.now) rect) }
     ensures memory { IfErr result (λ e. e ≡ Refusal.Memory) }
@@ -45,7 +45,7 @@ pub fn exported_text<G: Look>(alloc: Global, look: &G, rect: Rect) -> Result<Vec
     rows_text(alloc, &ShownTexts { look }, rect)
 }
 
-/// What cells show, as fields of records.
+/// Gives each cell what it shows as the text of its field.
 #[derive(Drop)]
 struct ShownTexts<'a, G: Look> {
     look: &'a G,
@@ -57,7 +57,7 @@ impl<G: Look> CellText for ShownTexts<'_, G> {
     fn put<L: Ledger>(&self, cell: Cell, text: &mut MemorySink<L>) -> Result<(), Refusal> {
         match write_shown(self.look.at(cell), text) {
             Ok(()) => Ok(()),
-            // (a sink over memory fails only if there is none)
+            // (a sink that writes to memory fails only when out of memory)
             Err(Refusal::Device) => Err(Refusal::Memory),
             Err(_) => unreachable!(),
         }

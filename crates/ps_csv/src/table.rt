@@ -1,4 +1,4 @@
-//! The records of a table.
+//! The records of a table, read from its text.
 
 ghost use Rattle.std.specs.Prelude.{◌≡◌, ◌⊎◌, ◌∷◌, ◌++◌, [], List, length, IfOk, IfErr, IfNone, IfSome, OnOk};
 ghost use Rattle.csv.specs.Records.{fields_of};
@@ -19,13 +19,13 @@ use std::alloc::Global;
 /// The contents that the records of a table give the cells.
 #[derive(Drop)]
 pub(crate) struct Table {
-    /// the contents of each record, for its cells
+    /// for each record, its cells with their contents
     pub(crate) batches: Vec<Vec<(Cell, Content)>>,
     /// the most fields of a record
     pub(crate) fields: usize,
 }
 
-/// The contents that the records of a text give the cells of the sheet.
+/// The contents that the records of a text give the cells of the sheet, or the first fault in reading order.
 pub(crate) fn read_table<W: TableWatcher>(
     alloc: Global,
     sheet: &Sheet,
@@ -53,7 +53,7 @@ pub(crate) fn read_table<W: TableWatcher>(
     Ok(table)
 }
 
-/// A reader of the text's records, with no header row; records may differ in length.
+/// A reader of the text's records. There is no header row, and records may have different numbers of fields.
 fn new_reader(alloc: Global, bytes: &[u8]) -> Reader<&[u8]>
     ensures { HasReadNothing bytes.now result }
 {
@@ -63,7 +63,7 @@ fn new_reader(alloc: Global, bytes: &[u8]) -> Reader<&[u8]>
         .from_reader(alloc, bytes)
 }
 
-/// Takes one more record into the table.
+/// Appends the contents of the next record to the table.
 fn take_record<W: TableWatcher>(
     alloc: Global,
     sheet: &Sheet,

@@ -1,22 +1,24 @@
-//! Observers of a table that is read.
+//! Observers of an import.
 
 use ps_grid::{Cell, Refusal};
 
-/// An observer of the fields of a table that is read. It changes nothing of what is taken in, so its calls promise
-/// nothing.
+/// An observer of the fields that an import reads. It can't change what is imported, so its methods have no contracts.
 pub trait TableWatcher {
-    /// Sees a field that isn't empty, and why its entry is refused, if it is.
+    /// Sees a field that isn't empty, and the refusal of `read_entry` for its text, if there is one.
+    ///
+    /// The refusal is `None` for a valid entry, even if the import then fails because the cell accepts no more
+    /// assignments (`ClockFull`).
     ///
     /// Cost: the watcher's own.
     fn saw_field(&mut self, cell: Cell, field: &[u8], refusal: Option<Refusal>);
 
-    /// Sees a record, counted from 1, that lies past the last row or has a field past the last column.
+    /// Sees the number of a record, counted from 1, that lies past the last row or has a field past the last column.
     ///
     /// Cost: the watcher's own.
     fn saw_past(&mut self, record: u64);
 }
 
-/// A watcher that ignores what it sees.
+/// A watcher that ignores what it sees, for an import that nobody observes.
 #[derive(Clone, Copy, Debug)]
 pub struct UnwatchedTable;
 

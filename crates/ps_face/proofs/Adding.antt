@@ -22,7 +22,7 @@ moved xs ys n = Unit {0}
 abbrev seen : List Note → View Note ℕ
 seen v = (v, (no_nib, None))
 
--- the word that holds `old` becomes one more
+-- the word that holds `old` is raised by one
 abbrev raised : ℕ → ℕ → ℕ
 raised old n = either (n == old) (old + 1) n
 

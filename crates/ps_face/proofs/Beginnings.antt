@@ -10,7 +10,7 @@ begins_itself (x ∷ xs) = let rest = begins_itself xs in (rest.0, ap (λ ys. x 
 pub begins_trans : {A : Type 0} (xs ys zs : List A) → IsPrefix xs ys → IsPrefix ys zs → IsPrefix xs zs
 begins_trans xs ys zs p q = (p.0 ++ q.0, sym (append_assoc xs p.0 q.0) ∙ (ap (λ w. w ++ q.0) p.1 ∙ q.1))
 
--- of two beginnings of one list the shorter begins the longer
+-- the shorter of two beginnings of one list is a beginning of the longer
 pub begins_longer : {A : Type 0} (xs ys zs : List A) → IsPrefix xs zs → IsPrefix ys zs → length xs ≤ length ys
     → IsPrefix xs ys
 begins_longer [] ys zs p q le = (ys, refl)

@@ -29,7 +29,7 @@ nothing_outside s v inside settled c out =
     let low : c < CELLS = IsCyclic-below (refers_to s) CELLS (refers_below s inside) c k in omega (arith, low, out))
     ∙ ap (λ x. value_of x v) (inside c out) ∙ nothing_held v
 
--- so a cell that changes lies in it
+-- so a cell that changes lies in the grid
 pub few_changes : (h : List Entries) (p : Note) → IsInGrid (joined_history h) → AreInGrid p.delta → Follows h p
     → length p.changes ≤ CELLS
 few_changes h p inside delta f =

@@ -48,7 +48,7 @@ delta_below n (e ∷ d) low c out =
     let here : e.0 < n = All-head (λ x. x.0 < n) e d low in
     state_of-there e d c (λ p. omega (arith, p, here, out)) ∙ delta_below n d (All-tail (λ x. x.0 < n) e d low) c out
 
--- and so does its join with a history of such deltas
+-- the join of a history of such deltas holds nothing from n on either
 pub one_more_below : (n : ℕ) (h : List Entries) (d : Entries) → All (λ e. e.0 < n) d
     → ((c : ℕ) → n ≤ c → joined_history h c ≡ empty_cell) → (c : ℕ) → n ≤ c
     → joined_history (h ++ d ∷ []) c ≡ empty_cell
@@ -57,7 +57,7 @@ one_more_below n h d low none c out =
     ap (λ (s : State). s c) (joined_history-push h d) ∙ ap (λ x. joined_cell x (state_of d c)) (none c out)
     ∙ joined_cell-empty (state_of d c) ∙ delta_below n d low c out
 
--- the values of all cells, where the changes of the patch are written
+-- the values of all cells after the changes of the patch are written
 shows_next : (h : List Entries) (p : Note) (values : List Value) → IsInGrid (joined_history h) → Shows h values
     → Follows h p → Shows (h ++ p.delta ∷ []) (written values p.changes)
 shows_next h p values in_grid s f =

@@ -1,4 +1,4 @@
--- What patches that wait do to a copy.
+-- What the patches that wait do to a copy.
 use Rattle.std.proofs.Common.{◌≡◌, ◌+◌, ◌<◌, ℕ, zero, suc, [], ◌∷◌, ◌++◌, fold, slice_set, refl, ap, ◌∙◌, arith}
 use Rattle.std.proofs.lemmas.List.Sums.{fold-append}
 use Rattle.ps_face.specs.Values.{Changes, written}
@@ -9,7 +9,7 @@ gathered_some : (n : ℕ) (t : Turn) → 0 < n → gathered n t ≡ t ∷ []
 gathered_some zero t some = absurd (omega (arith, some))
 gathered_some (suc n) t some = refl
 
--- a turn with the changes of two does what these do, one after the other
+-- a turn with the changes of two turns does what these two do, one after the other
 both_turned : (x : Copy) (t u : Turn) (changes : Changes) → changes ≡ t.changes ++ u.changes
     → turned x (record u { changes = changes }) ≡ turned (turned x t) u
 both_turned x t u changes same =

@@ -22,7 +22,7 @@ module _ (h : List Entries) (b : Book) where
         (at_snoc views newcomer v seat at),
   )
 
-  -- this seat's view becomes the list of y, which goes on where that of x ended
+  -- the view at this slot becomes the list of y, which begins with the list of x
   kept : (x y : Copy) (views : List View) (seat : ℕ) (w : View) → IsPrefix x.list y.list → w.list ≡ y.list
       → CopyStands h b y → Keeps h b x views → Keeps h b y (set views seat w)
   kept x y views seat w up is s k =

@@ -21,7 +21,7 @@ use Rattle.ps_face.specs.declared.patch.Note.{Note}
 use Rattle.ps_face.proofs.Decided.{value_decided}
 
 module _ (w : Assignment) where
-  -- a cell that shows what w gives does so after changes that give what w does
+  -- a cell that shows its value in w still does after changes to values of w
   same_after : (changes : Changes) (v : Assignment) (c : ℕ) → All (λ e. e.1 ≡ w e.0) changes → v c ≡ w c
       → overlaid v changes c ≡ w c
   same_after [] v c gives is = is
@@ -33,7 +33,7 @@ module _ (w : Assignment) where
       (λ (there : c ≢ e.0). with_value-there v e.0 c e.1 there ∙ is)
       (cases_eq c e.0))
 
-  -- and so does a cell that is changed
+  -- a cell that is changed shows its value in w
   changed_after : (changes : Changes) (v : Assignment) (c : ℕ) → All (λ e. e.1 ≡ w e.0) changes
       → In (map (λ e. e.0) changes) c → overlaid v changes c ≡ w c
   changed_after [] v c gives i = absurd (let f : false ≡ true = i in cc)

@@ -30,7 +30,7 @@ get-listed v (suc n) c d h =
     ∙ ap v (sym (last ∙ len)))
     (cases_lt c n)
 
--- the list of the values of which one is another is the list with that one written
+-- if one cell's value is changed, the list of the values is the old list with the new value written
 pub listed-set : (v : Assignment) (n c : ℕ) (x : Value) → listed (with_value v c x) n ≡ set (listed v n) c x
 unfolding listed
 listed-set v zero c x = sym (set_past [] c x (omega arith))
@@ -56,7 +56,7 @@ listed-set v (suc n) c x =
     (cases_lt c n))
     (cases_eq c n)
 
--- and so for changes, one after another
+-- the same for several changes, one after another
 pub listed-overlaid : (v : Assignment) (n : ℕ) (changes : Changes)
     → listed (overlaid v changes) n ≡ written (listed v n) changes
 listed-overlaid v n [] = refl

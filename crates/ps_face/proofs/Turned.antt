@@ -13,7 +13,7 @@ use Rattle.ps_face.specs.Published.{Gathered, MayShow, WriterStands}
 use Rattle.ps_face.proofs.Beginnings.{begins_itself, begins_trans}
 use Rattle.ps_face.proofs.Followed.{stands_next}
 
--- a copy may be shown that takes in the turn of the patch that comes next
+-- a copy that takes in the turn of the patch that comes next may be shown
 pub may_show : (h : List Entries) (b : Book) (x : Copy) (t : Turn) (front : List Note) (p : Note)
     → CopyStands h b x → x.list ≡ front → t.book ≡ b → t.list ≡ front ++ p ∷ []
     → t.version ≡ p.number → t.changes ≡ p.changes → AreInGrid p.delta → Follows (history_of h front) p
@@ -32,7 +32,7 @@ pub turned_last : (x : Copy) (turns : List Turn) (t : Turn)
 turned_last x turns t = fold-append turned x turns (t ∷ [])
 
 module _ (h : List Entries) (b : Book) (x : Copy) where
-  -- a copy that may be shown with all that waits, and then with one turn more, may be shown with what does the same
+  -- if a copy may be shown with all that waits and then one turn more, it may be shown with one turn that does the same
   pub may_more : (turns more : List Turn) (t : Turn) → MayShow h b x turns → MayShow h b (fold turned x turns) (t ∷ [])
       → fold turned x more ≡ turned (fold turned x turns) t → MayShow h b x more
   may_more turns more t first next same =
@@ -42,17 +42,17 @@ module _ (h : List Entries) (b : Book) (x : Copy) where
         stands = subst (CopyStands h b) (sym same) next.stands;
       }
 
-  -- as with all of these
+  -- as all of these
   pub one_more : (turns : List Turn) (t : Turn) → MayShow h b x turns → MayShow h b (fold turned x turns) (t ∷ [])
       → MayShow h b x (turns ++ t ∷ [])
   one_more turns t first next = may_more turns (turns ++ t ∷ []) t first next (turned_last x turns t)
 
-  -- where nothing waits, a copy that stands may be shown
+  -- if nothing waits, a copy that stands may be shown
   pub none_waits : (turns : List Turn) → CopyStands h b x → turns ≡ [] → MayShow h b x turns
   none_waits turns stands none =
       subst (MayShow h b x) (sym none) (record { later = begins_itself x.list; stands = stands })
 
-  -- the writer stands where a patch more waits, if nothing is pending
+  -- the writer stands after one more patch waits, if nothing is pending
   pub stands_waiting : (told new : Told) (word : Book) (turns : List Turn) (waiting more : Gathered)
       (appended : List Note) (t : Turn) → WriterStands h b x told word turns waiting appended
       → MayShow h b (fold turned x waiting.turns) (t ∷ [])
@@ -69,7 +69,7 @@ module _ (h : List Entries) (b : Book) (x : Copy) where
     follows = subst (All (Follows (history_of h new.list))) (sym none) (All-nil (Follows (history_of h new.list)));
   }
 
-  -- and so it does where all is shown
+  -- the writer stands after all patches are shown, if nothing is pending
   pub stands_shown : (told : Told) (word : Book) (turns : List Turn) (waiting : Gathered) (appended : List Note)
       → CopyStands h b x → x.list ≡ told.list → turns ≡ [] → waiting ≡ record { patches = 0; turns = [] }
       → told.book ≡ b → word ≡ b → appended ≡ [] → WriterStands h b x told word turns waiting appended

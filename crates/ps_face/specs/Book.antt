@@ -4,7 +4,7 @@ use Rattle.std.specs.Bool.{OnTrue}
 use Rattle.logbook.specs.Pages.{Cell, Step, View, Book, Named}
 use Rattle.ps_face.specs.declared.patch.Note.{Note}
 
--- the first word is the length of the list. A book has two words; this one leaves the second at 0
+-- the first word is the length of the list. A book has two words; here the second stays 0
 pub record CountsPatches (cells : List Cell) (log : List Note) : Type 0 where
   pub words : cells ≡ (length log, true) ∷ (0, true) ∷ []
 
@@ -12,6 +12,6 @@ pub record CountsPatches (cells : List Cell) (log : List Note) : Type 0 where
 abbrev pub head_of : Book → Named
 head_of b = record { tracked = true; key = 0; book = b }
 
--- where the word was as expected, the patch was added to all that had been seen
+-- if the exchange found the word as expected, the patch was added to all that had been seen
 abbrev pub Adds : Step Note → View Note ℕ → ℕ → View Note ℕ → Type 0
 Adds s v found w = OnTrue (found == s.old) (w.0 ≡ v.0 ++ s.ask ∷ [])

@@ -10,7 +10,7 @@ use Rattle.ps_cells.specs.Settled.{IsSettled}
 use Rattle.ps_face.specs.Values.{Changes, in_order, overlaid}
 use Rattle.ps_face.specs.declared.patch.Note.{Note}
 
--- exactly the cells whose values differ, ascending, each with its value in the second one
+-- the changes are exactly the cells whose values differ, ascending, each with its value in `after`
 pub record AreShownChanges (before after : Assignment) (changes : Changes) : Type 0 where
   pub ascending : IsStrictlyIncreasing (map (λ e. e.0) changes)
   pub exact : (c : ℕ) → In (map (λ e. e.0) changes) c ↔ ¬ (after c ≡ before c)
@@ -30,7 +30,7 @@ pub record Follows (h : List Entries) (p : Note) : Type 0 where
 abbrev pub delta_of : Note → Entries
 delta_of p = p.delta
 
--- the history that a list of patches stands for, after an opening history
+-- the history that a list of patches stands for: the opening history h with their deltas
 abbrev pub history_of : List Entries → List Note → List Entries
 history_of h ps = h ++ map delta_of ps
 

@@ -9,8 +9,8 @@ use Rattle.ps_face.specs.declared.waiting.TheConstants.{MOST_WAITING}
 use Rattle.ps_face.specs.Legal.{Follows, history_of}
 use Rattle.ps_face.specs.Seen.{Copy, CopyStands, Told, Turn, turned}
 
--- the published list; the beginning of it that the copies which readers take stand for; and the patches that are
--- appended and not yet published
+-- the published list; the beginning of it that readers are shown; and the patches that are appended and not yet
+-- published
 pub record Published : Type 0 where
   pub list : List Note
   pub shown : List Note
@@ -27,21 +27,21 @@ pub record Gathered : Type 0 where
   pub patches : ℕ
   pub turns : List Turn
 
--- so many patches as one turn; none are no turn
+-- so many patches as a list of turns: one turn for all of them, or no turn if there are none
 abbrev pub gathered : ℕ → Turn → List Turn
 gathered zero t = []
 gathered (suc n) t = t ∷ []
 
--- the copy x, after it takes in these turns, stands, and its list begins with the list of x
+-- after it takes in these turns, the copy x stands (`CopyStands`), and its list begins with the list of x
 pub record MayShow (h : List Entries) (b : Book) (x : Copy) (turns : List Turn) : Type 0 where
   pub later : IsPrefix x.list (fold turned x turns).list
   pub stands : CopyStands h b (fold turned x turns)
 
--- THE WRITER STANDS: what holds of the writer between two calls. x is the copy that readers take, `told` the writer's
--- beginning of the list, and `word` the book of its word. `turns` is what lies in the queue of the copies, `waiting`
--- the patches that wait, and `appended` what is pending. The copy stands, and nothing lies in the queue. The copy may
--- be shown with all that wait, and then stands for the whole list. Fewer patches wait than are shown at once, and each
--- appended patch may come next
+-- THE WRITER STANDS: what holds of the writer between two calls. x is the copy that readers take, and `told` the whole
+-- published list. `word` is the book of the word that holds the list's length. `turns` is what lies in the queue of the
+-- copies, `waiting` the patches that wait, and `appended` those that are pending. The copy stands, and nothing lies in
+-- the queue. With all patches that wait, the copy may be shown, and then stands for the whole list. Fewer than
+-- MOST_WAITING patches wait, and each appended patch may come next
 pub record WriterStands (h : List Entries) (b : Book) (x : Copy) (told : Told) (word : Book) (turns : List Turn)
     (waiting : Gathered) (appended : List Note) : Type 0 where
   pub stands : CopyStands h b x

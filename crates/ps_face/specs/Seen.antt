@@ -1,4 +1,4 @@
--- What contracts see of beginnings of the list, of copies and of turns.
+-- What contracts see of beginnings of the list, of copies, and of operations on copies (turns).
 use Rattle.std.specs.Prelude.{◌≡◌, ℕ, List, length}
 use Rattle.logbook.specs.Pages.{Book}
 use Rattle.ps_value.specs.declared.value.Value.{Value}
@@ -13,20 +13,21 @@ pub record Told : Type 0 where
   pub book : Book
   pub list : List Note
 
--- a copy of the shown values: the version, the values of all cells in order, and the list that they came from
+-- a copy of the shown values: the version, the values of all cells in order, and the list in a book that it stands for
 pub record Copy : Type 0 where
   pub book : Book
   pub list : List Note
   pub version : ℕ
   pub values : List Value
 
--- what a copy takes in: cells with new values, the version that it then has, and the list that it then stands for
+-- an operation on a copy: cells with new values, and the version and the list that the copy then has
 pub record Turn : Type 0 where
   pub book : Book
   pub list : List Note
   pub version : ℕ
   pub changes : Changes
 
+-- the copy x after the operation t
 abbrev pub turned : Copy → Turn → Copy
 turned x t = record { book = t.book; list = t.list; version = t.version; values = written x.values t.changes }
 

@@ -20,7 +20,7 @@ in_order v = listed v CELLS
 abbrev pub Changes : Type 0
 Changes = List (ℕ × Value)
 
--- a cell with what is kept of it, as a cell with a value
+-- a cell with its value, from a cell with its value as a sheet stores it
 abbrev pub valued : ℕ × Kept → ℕ × Value
 valued e = (e.0, value_of e.1)
 
@@ -28,6 +28,6 @@ valued e = (e.0, value_of e.1)
 abbrev pub written : List Value → Changes → List Value
 written values changes = fold (λ vs e. slice_set vs e.0 e.1) values changes
 
--- the assignment where the cells of the changes, one after another, show what they say
+-- the assignment v with the values of the changes, one after another
 abbrev pub overlaid : Assignment → Changes → Assignment
 overlaid v changes = fold (λ w e. with_value w e.0 e.1) v changes

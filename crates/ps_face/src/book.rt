@@ -1,7 +1,8 @@
-//! The book that has the published list, and a beginning of the list as a token.
+//! The book of the published list, and tokens for beginnings of the list.
 //!
-//! The list exists in contracts alone. Three things lie in memory: a word with the list's length, which the writer
-//! moves; a token of no bytes for a beginning that was seen; and that beginning's length.
+//! The list exists only in contracts: it is the log of a book of the crate `logbook`. Memory holds an atomic word with
+//! the list's length, which the writer raises. For a beginning that was seen, it holds a token of no bytes and the
+//! beginning's length.
 
 ghost use Rattle.std.specs.Prelude.{◌≡◌, ◌<◌, ◌≤◌, ◌++◌, ◌∷◌, [], length, MatchBool};
 ghost use mathlib.Core.List.{IsPrefix};
@@ -10,10 +11,10 @@ use crate::patch::{Note, Patch};
 use logbook::{Gain, Offer, Plain, Play, Rule, Seen, Start, Word};
 use std::marker::Model;
 
-/// The longest list. No run gets there.
+/// The greatest length of a list. No run reaches it.
 const LONGEST: u64 = 1 << 62;
 
-/// The rule of the book: its word is the length of the list.
+/// The rule that every step on the book keeps: its word is the length of the list.
 pub struct BookLaw;
 
 impl Rule<Note, u64> for BookLaw {
@@ -34,7 +35,7 @@ impl Rule<Note, u64> for BookLaw {
     ghost moves = { λ ask before after answer. Unit {0} };
 }
 
-/// Nothing is traded at a step.
+/// What a step on the book gives to its caller beside the list: nothing.
 pub struct Nothing;
 
 impl Gain<Note, u64> for Nothing {
@@ -43,7 +44,7 @@ impl Gain<Note, u64> for Nothing {
     ghost after = { λ names about answer. ftrue };
 }
 
-/// The step that adds a patch.
+/// The step that adds a patch to the list.
 pub struct Add;
 
 impl Play<Note, u64> for Add {
@@ -60,10 +61,12 @@ impl Plain<Patch<'_>, Note, u64> for Add {
     ghost state = { λ patch. None };
 }
 
-/// A book with an empty list, which has no copies yet. A contract sees it as the book.
+/// A new book, the record of a published list that is still empty. [`crate::FaceWriter::open`] makes copies for it.
+///
+/// A contract sees it as the book.
 #[derive(Drop)]
 pub struct NewBook {
-    /// the length of the list
+    /// the atomic word that holds the length of the list
     head: Word<Note, u64, BookLaw>,
     /// the token for the empty list
     seen: Seen<Note, u64, BookLaw>,
@@ -91,7 +94,7 @@ impl NewBook {
         }
     }
 
-    /// The book's word, and the beginning that has no patch.
+    /// The book's word, and the token for the empty list.
     pub(crate) fn split(self) -> (Head, BookPrefix)
         ensures head { result.0 ≡ self }
         ensures front { result.1 ≡ record { book = self; list = [] } }
@@ -101,7 +104,7 @@ impl NewBook {
     }
 }
 
-/// The word of a book: the length of its list. A contract sees it as the book.
+/// The atomic word of a book, which holds the length of the list. A contract sees it as the book.
 #[derive(Drop)]
 pub(crate) struct Head {
     head: Word<Note, u64, BookLaw>,
@@ -119,10 +122,12 @@ impl Model for Head {
     ghost invariant = { λ h. h.head ≡ head_of h.head.book };
 }
 
-/// A beginning of the published list that was seen.
+/// Proof that a beginning of the published list was seen: its length, and a token of no bytes.
+///
+/// A contract sees it as the book and that beginning.
 #[derive(Drop)]
 pub struct BookPrefix {
-    /// how many patches it has
+    /// the number of patches in the beginning
     count: u64,
     /// the token for it
     seen: Seen<Note, u64, BookLaw>,
@@ -154,7 +159,7 @@ impl BookPrefix {
         }
     }
 
-    /// Returns whether the other beginning of the list is as long or longer. Then it begins with this one.
+    /// Returns whether `other` is at least as long as this beginning of the same list. It then begins with this one.
     pub fn begins(&self, other: &BookPrefix) -> bool
         requires book { self.now.book ≡ other.now.book }
         ensures { MatchBool result
@@ -169,8 +174,8 @@ impl BookPrefix {
         true
     }
 
-    /// Adds a patch if this is the whole list, which only its writer can know. If the result is false, nothing was
-    /// added.
+    /// Adds a patch to the list and returns true, if this is the whole list; only the list's writer can know that. Else
+    /// returns false, and adds nothing.
     pub(crate) fn add(&mut self, head: &Head, patch: &Patch<'_>) -> bool
         requires book { head.now ≡ self.old.book }
         ensures { MatchBool result

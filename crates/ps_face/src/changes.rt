@@ -1,4 +1,4 @@
-//! What a patch changes, and how a table takes it in.
+//! The shown values that a patch changes, and how they are written to a table of shown values.
 
 ghost use Rattle.std.specs.Prelude.{◌≡◌, ◌+◌, ◌≤◌, ◌++◌, [], length, map, vec_capacity, IfOk, IfErr, MatchResult};
 ghost use Rattle.ps_grid.specs.declared.refusal.Refusal.TheVariants.{Memory};
@@ -11,12 +11,12 @@ use ps_shown::{Kept, Shown};
 use std::alloc::Global;
 use std::slice;
 
-/// Each cell whose shown value changes, with the new value. Most patches change one cell; that takes no memory.
+/// Each cell whose shown value changes, with the new value. Most patches change one cell; that needs no allocation.
 #[derive(Drop)]
 pub(crate) enum CellChanges {
     /// One cell shows another value.
     One((Cell, Kept)),
-    /// Any number of cells do.
+    /// Any number of cells show another value.
     Several(Vec<(Cell, Kept)>),
 }
 
@@ -43,7 +43,7 @@ impl CellChanges {
         }
     }
 
-    /// Puts what the cells show from now on.
+    /// Writes the new values to `shown`.
     pub(crate) fn put(self, shown: &mut Shown)
         ensures { shown_at shown.new ≡ overlaid (shown_at shown.old) (map valued (entries_of self)) }
     {
@@ -55,8 +55,8 @@ impl CellChanges {
         }
     }
 
-    /// Puts copies, with one more owner for each text. Puts nothing if a text has as many owners as can be counted.
-    /// `room` has space for the changes; what it holds is ignored.
+    /// Writes copies of the new values to `shown`; a text is shared, not copied. Writes nothing, and fails, if the
+    /// reference count of a text is full. `room` has space for the changes; what it holds is ignored.
     pub(crate) fn put_copies(
         &self,
         alloc: Global,
@@ -96,7 +96,7 @@ fn gather_all(changes: Vec<(Cell, Kept)>, list: &mut Vec<(Cell, Kept)>)
     }
 }
 
-/// Lists copies of changes, with one more owner for each text. The list has room for them.
+/// Appends copies of changes to a list that has room for them; a text is shared, not copied.
 fn copy_all(
     alloc: Global,
     changes: &[(Cell, Kept)],
@@ -115,7 +115,7 @@ fn copy_all(
     Ok(())
 }
 
-/// Puts what the cells show from now on, and empties the list.
+/// Writes the new values to `shown`, and empties the list.
 fn put_all(shown: &mut Shown, changes: &mut Vec<(Cell, Kept)>)
     ensures shown { shown_at shown.new ≡ overlaid (shown_at shown.old) (map valued changes.old.items) }
     ensures room { vec_capacity changes.new ≡ vec_capacity changes.old }

@@ -1,4 +1,4 @@
-//! One copy of the shown values.
+//! One of the two published copies of the shown values.
 
 ghost use Rattle.std.specs.Prelude.{◌≡◌, ◌≤◌, [], length, map, slice_index_or, IfOk, IfErr, MatchResult};
 ghost use Rattle.ps_grid.specs.declared.refusal.Refusal.TheVariants.{Memory};
@@ -17,13 +17,13 @@ use ps_value::Value;
 use std::alloc::{AllocError, Global};
 use std::marker::Model;
 
-/// What all cells show, and the version, with the beginning of the published list that they come from.
+/// A copy of what all cells show, with its version and the beginning of the published list that it stands for.
 #[derive(Drop)]
 pub struct Face {
     version: u64,
     shown: Shown,
     front: BookPrefix,
-    /// copies of a patch's changes, while it is applied; there is room for all cells
+    /// copies of an operation's changes while it is applied; there is room for all cells
     room: Vec<(Cell, Kept)>,
     alloc: Global,
 }
@@ -51,7 +51,7 @@ impl Model for Face {
     ghost invariant = { λ f. CELLS ≤ vec_capacity f.room };
 }
 
-/// What patches that follow each other change in a copy, with the beginning of the list that ends with the last of
+/// What one or several consecutive patches change in a copy, with the beginning of the list that ends with the last of
 /// them. It has no more changes than there are cells.
 #[derive(Drop)]
 pub struct Operation {
@@ -84,8 +84,8 @@ impl Model for Operation {
 }
 
 impl Operation {
-    /// The operation of patches with these changes. The last of them has number `version`, and ends the list of the
-    /// front.
+    /// The operation of patches with these changes. The last patch has number `version`, and the list `front` ends with
+    /// it.
     pub(crate) fn new(version: u64, changes: CellChanges, front: BookPrefix) -> Operation
         requires few { length (entries_of changes) ≤ CELLS }
         ensures { result ≡ record {
@@ -115,9 +115,9 @@ impl Operation {
 }
 
 impl Face {
-    /// A copy of a table of shown values, with the room that applying a patch needs. Fails only when out of memory.
+    /// A copy of shown values, with the room that applying an operation needs. Fails only when out of memory.
     ///
-    /// Cost: that of copying the table, and an allocation of the same size, where nothing is written yet.
+    /// Cost: that of copying the values, and an allocation of about the same size, to which nothing is written yet.
     pub(crate) fn new(
         alloc: Global,
         version: u64,
@@ -141,14 +141,14 @@ impl Face {
         })
     }
 
-    /// Returns the length of the history.
+    /// Returns the version of the copy: the length of the history whose values it shows.
     pub fn version(&self) -> u64
         ensures version { result ≡ self.now.version }
     {
         self.version
     }
 
-    /// Returns what a cell shows.
+    /// Returns what a cell shows in the copy.
     pub fn at(&self, cell: Cell) -> Value
         ensures value { result ≡ slice_index_or self.now.values cell Empty }
     {
@@ -164,7 +164,7 @@ impl Face {
         &self.front
     }
 
-    /// Applies a patch whole, or does nothing if a text has as many owners as can be counted. It takes no memory.
+    /// Applies an operation whole, or does nothing if the reference count of a shared text is full. It takes no memory.
     fn apply(&mut self, operation: &Operation) -> Result<(), Refusal>
         ensures { MatchResult result (λ _. self.new ≡ turned self.old operation.now) (λ _. self.new ≡ self.old) }
     {
@@ -176,7 +176,7 @@ impl Face {
         Ok(())
     }
 
-    /// Applies a patch that the other copy already has, so that its changes can be moved. It takes no memory.
+    /// Applies an operation that the other copy already has, so that its changes can be moved. It takes no memory.
     fn take_in(&mut self, operation: Operation)
         ensures { self.new ≡ turned self.old operation }
     {

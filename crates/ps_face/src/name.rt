@@ -3,8 +3,10 @@
 use std::marker::Brand;
 use std::sync::ledger::Ledger;
 
-/// The name of a pair of published copies: the book of their list, and the history that they were opened with. It has
-/// no function and no field.
+/// A type that names one pair of published copies, so that its writer and readers fit together.
+///
+/// In contracts it gives the book of the published list, and the history that the copies were opened with. It has no
+/// methods.
 pub trait Named: Ledger {
     ghost use Rattle.std.specs.Prelude.{List};
     ghost use Rattle.logbook.specs.Pages.{Book};

@@ -1,4 +1,4 @@
-//! A patch: what one delta changes.
+//! A patch: a delta of the history, and what it changes in the shown values.
 
 ghost use Rattle.std.specs.Prelude.{◌≡◌, [], ◌∷◌, map, IfOk, IfErr};
 ghost use Rattle.ps_grid.specs.declared.refusal.Refusal.TheVariants.{Memory};
@@ -15,9 +15,9 @@ use std::alloc::Global;
 use std::collections::LinkedList;
 use std::marker::Model;
 
-/// A patch as contracts see it. No value of it is made.
+/// A patch as contracts see it. The program makes no value of this type.
 pub struct Note {
-    /// The version that the patch leads to.
+    /// The delta's number in the history, from 1: the version after the patch.
     pub number: u64,
     /// The accepted delta.
     pub delta: Delta,
@@ -28,7 +28,7 @@ pub struct Note {
 }
 
 /// A delta, its number in the history, and each cell whose shown value it changes, with the new value. It borrows the
-/// delta, since the copies take in the changes alone.
+/// delta, since the published copies need only the changes.
 #[derive(Drop)]
 pub struct Patch<'a> {
     pub(crate) number: u64,
@@ -59,8 +59,10 @@ impl<'a> Model for Patch<'a> {
 }
 
 impl<'a> Patch<'a> {
-    /// Returns the patch of a delta: its number in the history, the cells whose shown values change, ascending, with
-    /// the new values, and the session slot whose call made it.
+    /// Creates the patch of a delta that is number `number` in the history, from 1.
+    ///
+    /// `changes` are the cells whose shown values change, ascending, with the new values. `owner` is the session slot
+    /// whose call made the delta; only contracts read it.
     pub fn new(number: u64, delta: &'a Delta, changes: Vec<(Cell, Kept)>, owner: u64) -> Patch<'a>
         ensures { result ≡ record {
           number = number;
@@ -77,8 +79,7 @@ impl<'a> Patch<'a> {
         }
     }
 
-    /// Returns the patch of a delta that changes what one cell shows. All else is as in [`Patch::new`]; the change
-    /// takes no memory.
+    /// Creates the patch of a delta that changes the shown value of one cell, as [`Patch::new`] does, but with no list.
     pub fn of_one(number: u64, delta: &'a Delta, change: (Cell, Kept), owner: u64) -> Patch<'a>
         ensures { result ≡ record {
           number = number;
@@ -95,7 +96,7 @@ impl<'a> Patch<'a> {
         }
     }
 
-    /// Returns the version that the patch leads to.
+    /// Returns the delta's number in the history, from 1: the version after the patch.
     pub fn number(&self) -> u64
         ensures number { result ≡ self.now.number }
     {
@@ -114,15 +115,15 @@ impl<'a> Patch<'a> {
 
     /// Returns each cell whose shown value changes, with the new value.
     ///
-    /// Nothing in the program calls it: the copies take the changes out. It is part of the public interface, as the
-    /// number and the delta are.
+    /// Nothing in the program calls it. It is part of the public interface, as [`Patch::number`] and [`Patch::delta`]
+    /// are.
     pub fn changes(&self) -> &[(Cell, Kept)]
         ensures changes { map valued result.now ≡ self.now.changes }
     {
         self.changes.as_slice()
     }
 
-    /// The patch with one more owner of its delta. Fails only when out of memory.
+    /// The patch with a share of its own in the delta, instead of a borrow. Fails only when out of memory.
     pub(crate) fn keep(self, alloc: Global) -> Result<KeptPatch, Refusal>
         ensures kept { IfOk result (λ p. p ≡ self.entry) }
         ensures memory { IfErr result (λ e. e ≡ Memory) }

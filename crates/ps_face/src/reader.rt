@@ -1,4 +1,4 @@
-//! The readers of the copies.
+//! The readers of the two published copies.
 
 ghost use Rattle.std.specs.Prelude.{◌≡◌, ◌+◌, ◌<◌, length, slice_index_or, IfOk, IfErr, MatchBool};
 ghost use mathlib.Core.List.{IsPrefix};
@@ -17,7 +17,10 @@ use ps_grid::Cell;
 use ps_value::{Operand, Value};
 use std::marker::Model;
 
-/// A reader that isn't reading. A contract sees it as the list that it has seen, and how often it has entered.
+/// A reader of the published copies, while it reads none. [`FaceReader::enter`] begins a reading.
+///
+/// A contract sees it as the beginning of the published list that it has seen or learned of, and how often it has
+/// entered.
 #[derive(Drop)]
 pub struct FaceReader<L: Named> {
     reader: Reader<Face, View, Law<L>>,
@@ -40,10 +43,11 @@ impl<L: Named> Model for FaceReader<L> {
     ghost invariant = { λ r. (r.front.book ≡ L.book) × IsLegal L.opening r.front.list };
 }
 
-/// A reader with the copy that it reads, which doesn't change. End it by `leave`.
+/// A reading: a reader that has entered, with the copy that it reads. The copy doesn't change until [`Seen::leave`]
+/// ends the reading.
 ///
-/// A contract sees it as the list that was shown when it entered, how often the reader has entered, and the values of
-/// all cells in order.
+/// A contract sees it as the published list that was shown when the reader entered, how often the reader has entered,
+/// and the values of all cells in order.
 pub struct Seen<L: Named> {
     reading: Reading<Face, View, Law<L>>,
 }
@@ -71,7 +75,7 @@ impl<L: Named> Model for Seen<L> {
 }
 
 impl<L: Named> FaceReader<L> {
-    /// A reader that has seen a beginning of the list.
+    /// Makes a reader that has seen the beginning `front` of the published list.
     pub(crate) fn new(reader: Reader<Face, View, Law<L>>, front: BookPrefix) -> FaceReader<L>
         requires book { front.book ≡ L.book }
         requires legal { IsLegal L.opening front.list }
@@ -80,7 +84,7 @@ impl<L: Named> FaceReader<L> {
         FaceReader { reader, front }
     }
 
-    /// Returns the list that this reader has seen.
+    /// Returns the beginning of the published list that this reader has seen or learned of.
     pub fn front(&self) -> &BookPrefix
         ensures front { result.now ≡ record { book = L.book; list = self.now.list } }
         ensures legal { IsLegal L.opening self.now.list }
@@ -88,11 +92,10 @@ impl<L: Named> FaceReader<L> {
         &self.front
     }
 
-    /// Takes over a beginning of the published list if it is as long as what this reader has seen or longer, and
-    /// returns whether it is.
+    /// Makes this reader see nothing older than `front`, a beginning of the published list, and returns true.
     ///
-    /// It is no step on the copies, and takes no memory. While a patch of that beginning waits to be shown, this reader
-    /// can't enter.
+    /// Returns false, and changes nothing, if the reader has seen more than `front` already. It doesn't touch the
+    /// copies, and takes no memory. While a patch of `front` waits to be shown, this reader can't enter.
     pub fn learn(&mut self, front: &BookPrefix) -> bool
         requires book { front.now.book ≡ L.book }
         requires legal { IsLegal L.opening front.now.list }
@@ -109,11 +112,11 @@ impl<L: Named> FaceReader<L> {
 
     /// Takes the copy that is shown now, in one step.
     ///
-    /// The reader comes back if the writer is gone. It also comes back if the copy is older than what the reader has
-    /// seen or learned of: a patch that it learned of then still waits to be shown.
+    /// Returns the reader instead if the writer is gone, or if a patch that the reader learned of still waits to be
+    /// shown.
     ///
-    /// What the copy shows are the settled values of a history that a legal list of patches stands for, all cells at
-    /// one version. That list begins with all that this reader had seen.
+    /// The copy shows the settled values of all cells at one version. The list of patches that it stands for begins
+    /// with all that this reader had seen, and is legal: each patch follows the history before it.
     ///
     /// It takes no lock and no memory, and doesn't wait.
     pub fn enter(self) -> Result<Seen<L>, FaceReader<L>>
@@ -128,7 +131,7 @@ impl<L: Named> FaceReader<L> {
             Ok(reading) => reading,
             Err(reader) => return Err(FaceReader { reader, front }),
         };
-        // A copy is older than what the reader learned of only while some of that waits to be shown.
+        // The copy is older than what the reader learned of only while a patch of that waits to be shown.
         if !front.begins(reading.get().front()) {
             return Err(FaceReader {
                 reader: reading.leave(),
@@ -140,14 +143,14 @@ impl<L: Named> FaceReader<L> {
 }
 
 impl<L: Named> Seen<L> {
-    /// Returns the length of the history.
+    /// Returns the version of the copy: the length of the history whose values it shows.
     pub fn version(&self) -> u64
         ensures version { result ≡ length (history_of L.opening self.now.list) }
     {
         self.reading.get().version()
     }
 
-    /// Returns what a cell shows.
+    /// Returns what a cell shows in the copy.
     pub fn at(&self, cell: Cell) -> Value
         ensures value { result ≡ slice_index_or self.now.values cell Empty }
         ensures whole { Shows (history_of L.opening self.now.list) self.now.values }
@@ -155,7 +158,7 @@ impl<L: Named> Seen<L> {
         self.reading.get().at(cell)
     }
 
-    /// Returns the list that the copy is of, which readers are shown.
+    /// Returns the list that the copy stands for, as a [`ShownPrefix`].
     pub fn shown(&self) -> ShownPrefix
         ensures shown { result ≡ record { book = L.book; list = self.now.list } }
     {

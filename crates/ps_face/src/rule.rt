@@ -1,4 +1,5 @@
-//! The rule over the two copies: the published list is legal, and each reader's list is a beginning of it.
+//! The rule that each step on the two copies keeps: the shown list is legal, and what each reader has seen is a
+//! beginning of it.
 
 use crate::face::Face;
 use crate::name::Named;
@@ -7,16 +8,15 @@ use crossbeam_utils::rule::{Outcome, Protocol};
 use std::collections::LinkedList;
 use std::marker::PhantomData;
 
-/// What a reader or the writer has seen: a beginning of the published list, and how often it has entered. No value of
-/// it is made.
+/// What a reader or the writer has seen, as contracts see it. The program makes no value of this type.
 pub struct View {
     /// The beginning of the published list.
     pub list: LinkedList<Note>,
-    /// How often it has entered.
+    /// How often the reader has entered.
     pub enters: u64,
 }
 
-/// The rule.
+/// The rule that each step on the two copies keeps.
 pub struct Law<L: Named> {
     of: PhantomData<L>,
 }
@@ -29,7 +29,7 @@ impl<L: Named> Protocol<Face, View> for Law<L> {
     ghost first = { newcomer };
 }
 
-/// The step of the writer.
+/// The step by which the writer shows another copy.
 pub struct Publish;
 
 impl Outcome<Face, View> for Publish {
@@ -38,7 +38,7 @@ impl Outcome<Face, View> for Publish {
     ghost then = { Publishes };
 }
 
-/// The step of a reader.
+/// The step by which a reader takes the copy that is shown.
 pub struct Enter<L: Named> {
     of: PhantomData<L>,
 }

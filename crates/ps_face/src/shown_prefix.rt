@@ -5,10 +5,10 @@ ghost use Rattle.std.specs.Prelude.{◌≡◌};
 use crate::book::BookPrefix;
 use std::marker::Model;
 
-/// A token for a beginning of the published list that readers were shown. A contract sees it as that beginning.
+/// Proof that readers were shown a beginning of the published list. A contract sees it as that beginning.
 ///
-/// Only two make one of their own: the writer of the copies, for a list that it has shown, and a reader, for the copy
-/// that it reads.
+/// Two functions make one: [`crate::FaceWriter::shown`], once the whole list is shown, and [`crate::Seen::shown`], for
+/// the copy that a reader reads.
 #[derive(Drop)]
 pub struct ShownPrefix {
     front: BookPrefix,
@@ -27,7 +27,7 @@ impl Model for ShownPrefix {
 }
 
 impl ShownPrefix {
-    /// The token for a beginning that was shown.
+    /// Makes the proof for a beginning; the caller must know that readers were shown it.
     pub(crate) fn of(front: &BookPrefix) -> ShownPrefix
         ensures { result ≡ front.now }
     {
@@ -36,7 +36,7 @@ impl ShownPrefix {
         }
     }
 
-    /// Returns the beginning.
+    /// Returns the beginning that readers were shown.
     pub fn front(&self) -> &BookPrefix
         ensures { result.now ≡ self.now }
     {

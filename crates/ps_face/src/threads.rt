@@ -1,6 +1,6 @@
-//! Proof that the writer of published copies may go to another thread.
+//! Proof that the writer of published copies may move to another thread (`Send`).
 //!
-//! The search for this proof fails over the whole writer at once, so it takes the parts one after another.
+//! The prover doesn't find this proof for the whole writer at once, so the functions here prove it for its parts first.
 ghost use denote.Param.Send.{IsSend, IsSync};
 ghost use Rattle.ps_face.specs.contracts.patch.KeptPatch as patch;
 ghost use Rattle.ps_face.specs.contracts.writer.FaceWriter as writer;
@@ -15,26 +15,27 @@ use left_right::writer::Writer;
 use ps_delta::CellState;
 use std::sync::Wait;
 
-/// What the bound says of a type.
+/// States for the prover what the bound `Send` says of a type.
 fn is_send<T: Send>()
     ensures { IsSend T.row }
 {}
 
-/// What the bounds say of a type.
+/// States for the prover what the bounds `Send` and `Sync` say of a type.
 fn is_send_and_sync<T: Send + Sync>()
     ensures send { IsSend T.row }
     ensures sync { IsSync T.row }
 {}
 
-/// A stored patch may go to another thread.
+/// States that a stored patch may move to another thread.
 fn patch_is_send()
     ensures { IsSend patch.the_row }
 {
     is_send_and_sync::<CellState>();
 }
 
-/// States that the writer of published copies may go to another thread. Callers that share a writer between threads
-/// call this first.
+/// States that a `FaceWriter` may move to another thread (`Send`), if its `R` may. It does nothing.
+///
+/// Callers that share a writer between threads call this first, so that the prover has this fact.
 pub fn writer_is_send<L: Named, R: Wait + Drop + Send>()
     ensures { IsSend (writer.the_row L.row R.row (record { book = L.book; opening = L.opening }) L.Ledger) }
 {

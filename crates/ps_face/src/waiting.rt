@@ -1,4 +1,4 @@
-//! What waits to be shown.
+//! The patches of the published list that wait to be shown to readers.
 
 ghost use Rattle.std.specs.Prelude.{◌≡◌, ◌+◌, ◌<◌, ◌∷◌, [], fold, IfErr, OnOk, MatchOption};
 ghost use Rattle.ps_grid.specs.declared.refusal.Refusal.TheVariants.{Memory};
@@ -14,19 +14,19 @@ use ps_shown::Kept;
 use std::alloc::Global;
 use std::marker::Model;
 
-/// The number of waiting patches at which all are shown at once, so fewer than this wait. Together they change no more
-/// cells than this either. So readers are never further behind, and what waits takes little memory.
+/// The number of waiting patches at which the writer shows all of them, so fewer than this wait. Together they have at
+/// most this many changes. This limits how far readers are behind, and the memory of what waits.
 pub const MOST_WAITING: usize = 64;
 
-/// The patches of the list that wait to be shown, gathered as one operation on a copy. A contract sees them as how many
-/// there are, and as what a copy takes in with them.
+/// The patches of the list that wait to be shown, merged into one operation on a copy. A contract sees their number,
+/// and what that operation does to a copy.
 #[derive(Drop)]
 pub(crate) struct Waiting {
     /// how many there are
     patches: usize,
-    /// the version that the last of them leads to
+    /// the version after the last of them
     version: u64,
-    /// what they change, one after another; there is room for as many changes as patches, or none at all
+    /// what they change, one after another; there is room for `MOST_WAITING` changes, or none at all
     changes: Vec<(Cell, Kept)>,
     /// the beginning of the list that ends with the last of them
     front: BookPrefix,
@@ -58,7 +58,7 @@ impl Model for Waiting {
 }
 
 impl Waiting {
-    /// Nothing waits.
+    /// An empty list: no patch waits.
     pub(crate) fn none(alloc: Global, front: BookPrefix) -> Waiting
         ensures { result ≡ record { patches = 0; turns = [] } }
     {
@@ -78,7 +78,7 @@ impl Waiting {
         self.patches
     }
 
-    /// Makes room for a patch that is to wait. Fails only when out of memory.
+    /// Makes room for the changes of all that may wait. Fails only when out of memory.
     #[inline(always)]
     pub(crate) fn reserve(&mut self) -> Result<(), Refusal>
         ensures same { self.new ≡ self.old }
@@ -90,7 +90,7 @@ impl Waiting {
         Ok(())
     }
 
-    /// Lets one more patch wait, after the others. It comes back if there is no room for its changes.
+    /// Adds a patch after those that wait, or returns it if there is no room for its changes.
     #[inline(always)]
     pub(crate) fn gather(&mut self, next: Operation) -> Result<(), Operation>
         requires few { self.old.patches < MOST_WAITING }
@@ -115,7 +115,7 @@ impl Waiting {
         Ok(())
     }
 
-    /// Takes out all that waits, as one operation; none if nothing waits.
+    /// Takes out all that waits, as one operation, or returns `None` if nothing waits. Its memory goes with it.
     #[inline(always)]
     pub(crate) fn take(&mut self) -> Option<Operation>
         ensures turns { MatchOption result (self.old.turns ≡ []) (λ t. self.old.turns ≡ t ∷ []) }

@@ -1,4 +1,4 @@
-//! The one writer of the copies.
+//! The one writer of the two published copies.
 
 ghost use Rattle.std.specs.Prelude.{◌≡◌, ◌⊎◌, ◌+◌, ◌<◌, ◌≤◌, ◌++◌, ◌∷◌, [], All, IfOk, IfErr, MatchResult, OnOk, OnErr};
 ghost use Rattle.std.specs.Prelude.{IsOk, drop, false, fold, length, map, vec_len};
@@ -31,14 +31,16 @@ use std::alloc::{AllocError, Global};
 use std::marker::Model;
 use std::sync::Wait;
 
-/// The most operations in the queue of the copies. Two were shown last, and one of the copies has yet to take them in:
-/// what waited, and a patch. As many again are to be shown.
+/// The most operations in the queue of the copies. Each showing adds up to two: what waited, and a patch. The two of
+/// the last showing stay in the queue until the other copy takes them in, and two more are to be shown next.
 const MOST_QUEUED: usize = 4;
 
 type Copies<L> = Writer<Face, Operation, View, Law<L>>;
 
-/// The writer of two published copies. A contract sees it as the published list, the beginning of it that readers are
-/// shown, and what is appended and not yet published.
+/// The writer of two published copies. Readers use one copy while the writer changes the other.
+///
+/// A contract sees it as the published list of patches, the beginning of that list that readers are shown, and the
+/// pending patches, which are appended and not yet published.
 pub struct FaceWriter<L: Named, R: Wait + Drop> {
     copies: Copies<L>,
     head: Head,
@@ -70,9 +72,13 @@ impl<L: Named, R: Wait + Drop> Model for FaceWriter<L, R> {
 }
 
 impl<L: Named, R: Wait + Drop> FaceWriter<L, R> {
-    /// Makes two copies of the shown values of a sheet, with its version, and `readers` readers, 1 to `SEATS`.
+    /// Creates two copies of what a sheet shows at `version`, and returns their writer and `readers` readers, 1 to
+    /// `SEATS`.
     ///
-    /// Fails when out of memory, or if a reader gets no place.
+    /// # Errors
+    ///
+    /// - `Memory` if allocation fails.
+    /// - `Seat` if the copies have no room for another reader.
     ///
     /// Cost: that of copying the shown values twice.
     pub fn open(
@@ -115,12 +121,12 @@ impl<L: Named, R: Wait + Drop> FaceWriter<L, R> {
         }
     }
 
-    /// Stores a patch that may come next, with one more owner of its delta, until [`FaceWriter::publish`] shows it.
+    /// Stores the patch that comes next in the list, until [`FaceWriter::publish`] adds it there and shows it.
     ///
     /// Fails only when out of memory, and then nothing has changed.
     ///
     /// Nothing in the program calls it: [`FaceWriter::publish_patch`] does both in one call. It is part of the public
-    /// interface, for callers that do something between the two, as a test that looks at the copies there.
+    /// interface, for callers that do something between the two, such as a test that looks at the copies.
     ///
     /// Cost: constant; the first call takes memory for one patch.
     pub fn append(&mut self, patch: Patch<'_>) -> Result<(), Refusal>
@@ -136,8 +142,10 @@ impl<L: Named, R: Wait + Drop> FaceWriter<L, R> {
         Ok(())
     }
 
-    /// Shows readers the patch that is pending, and all that waits, at one step, and returns the delta. It waits for
-    /// the readers that still read what was shown before the last time.
+    /// Publishes the patch that [`FaceWriter::append`] stored, and returns its delta. Shows it to readers at one step,
+    /// with all posted patches that wait.
+    ///
+    /// It waits until no reader reads a copy that it took before the last showing.
     ///
     /// Nothing in the program calls it. It is part of the public interface, as [`FaceWriter::append`] is.
     ///
@@ -166,11 +174,12 @@ impl<L: Named, R: Wait + Drop> FaceWriter<L, R> {
         delta
     }
 
-    /// Shows readers a patch that may come next, and with it all that waits, at one step. It waits for the readers that
-    /// still read what was shown before the last time.
+    /// Adds the patch that comes next to the list, and shows it to readers at one step, with all posted patches that
+    /// wait.
     ///
-    /// Cost: twice the changes of the patch, and a constant for each reader. Posting has paid for what waits. No
-    /// memory.
+    /// It waits until no reader reads a copy that it took before the last showing.
+    ///
+    /// Cost: twice the changes of the patch and of those that wait, and a constant for each reader. No memory.
     #[inline(always)]
     pub fn publish_patch(&mut self, patch: Patch<'_>)
         requires none { self.old.pending ≡ [] }
@@ -192,14 +201,14 @@ impl<L: Named, R: Wait + Drop> FaceWriter<L, R> {
         show_with(rt, copies, waiting, next);
     }
 
-    /// Adds a patch that may come next to the list. Only the next [`FaceWriter::show`] or [`FaceWriter::publish_patch`]
-    /// shows it to readers.
+    /// Adds the patch that comes next to the list. The patch waits: only the next [`FaceWriter::show`] or
+    /// [`FaceWriter::publish_patch`] shows it to readers.
     ///
-    /// But if [`MOST_WAITING`] patches then wait, or would wait with more changes than that, all are shown at once.
-    /// Fails only when out of memory, and then nothing has changed.
+    /// But if [`MOST_WAITING`] patches then wait, or would wait with more changes than that, this call shows all of
+    /// them, and waits for readers as `show` does. Fails only when out of memory, and then nothing has changed.
     ///
-    /// Cost: its changes, once now and twice when they are shown; until then no look at the readers. The first patch
-    /// that waits takes memory for [`MOST_WAITING`] changes.
+    /// Cost: the changes of the patch, once now and twice when they are shown. The first patch that waits after a
+    /// showing takes memory for [`MOST_WAITING`] changes.
     #[inline(always)]
     pub fn post_patch(&mut self, patch: Patch<'_>) -> Result<(), Refusal>
         requires none { self.old.pending ≡ [] }
@@ -231,10 +240,12 @@ impl<L: Named, R: Wait + Drop> FaceWriter<L, R> {
         Ok(())
     }
 
-    /// Shows readers all that waits, at one step, or does nothing if nothing waits. It waits for the readers that still
-    /// read what was shown before the last time.
+    /// Shows readers all posted patches that wait, at one step, or does nothing if none waits.
     ///
-    /// Cost: a constant for each reader, since posting has paid for what waits. Constant if nothing waits. No memory.
+    /// It waits until no reader reads a copy that it took before the last showing.
+    ///
+    /// Cost: twice the changes of the patches that wait, and a constant for each reader. Constant if none waits. No
+    /// memory.
     pub fn show(&mut self)
         ensures shown { self.new ≡ record self.old { shown = self.old.list } }
     {
@@ -247,7 +258,7 @@ impl<L: Named, R: Wait + Drop> FaceWriter<L, R> {
         show_waiting(rt, copies, waiting);
     }
 
-    /// Returns the published list.
+    /// Returns the whole published list, also the patches that wait to be shown.
     pub fn front(&self) -> &BookPrefix
         ensures front { result.now ≡ record { book = L.book; list = self.now.list } }
         ensures legal { IsLegal L.opening self.now.list }
@@ -256,7 +267,7 @@ impl<L: Named, R: Wait + Drop> FaceWriter<L, R> {
         &self.front
     }
 
-    /// Returns the published list, once readers are shown all of it.
+    /// Returns the whole published list as one that readers were shown. No patch may wait.
     pub fn shown(&self) -> ShownPrefix
         requires all { self.now.shown ≡ self.now.list }
         ensures shown { result ≡ record { book = L.book; list = self.now.shown } }
@@ -279,7 +290,7 @@ impl<L: Named, R: Wait + Drop> Drop for FaceWriter<L, R> {
     }
 }
 
-/// Makes the two copies, with room in their queue.
+/// Makes the two copies, with room in their queue for all operations that ever lie there.
 fn open_copies<L: Named, R: Wait>(
     rt: &R,
     alloc: Global,
@@ -309,7 +320,7 @@ fn open_copies<L: Named, R: Wait>(
     Ok(copies)
 }
 
-/// Fills the queue of the copies with operations that change nothing, so that it has room for all that ever lie in it.
+/// Fills the queue of the copies with operations that change nothing, so that it gets room for all that ever lie there.
 fn fill_queue<L: Named>(
     alloc: Global,
     copies: &mut Copies<L>,
@@ -356,7 +367,7 @@ fn make_readers<L: Named>(
     Ok(made)
 }
 
-/// Adds a patch that may come next to the book, as its one writer. Returns what it does to a copy.
+/// Adds the patch that comes next to the book's list, and returns what it does to a copy.
 #[inline(always)]
 fn add_patch<L: Named, R: Wait>(
     rt: &R,
@@ -385,7 +396,7 @@ fn add_patch<L: Named, R: Wait>(
     Operation::new(number, changes, front.again())
 }
 
-/// Adds the patch to the book.
+/// Adds the patch to the book's list. The first try succeeds, since the book has no other writer.
 #[inline(always)]
 fn add_to<R: Wait>(rt: &R, head: &Head, front: &mut BookPrefix, patch: &Patch<'_>)
     requires book { head.now ≡ front.old.book }
@@ -412,7 +423,7 @@ fn show_waiting<L: Named, R: Wait>(rt: &R, copies: &mut Copies<L>, waiting: &mut
     }
 }
 
-/// Shows readers a copy that has taken in all that waits, and then the operation.
+/// Shows readers a copy that has taken in all that waits and then the operation.
 #[inline(always)]
 fn show_with<L: Named, R: Wait>(
     rt: &R,
@@ -436,7 +447,7 @@ fn show_with<L: Named, R: Wait>(
     turn_over(rt, copies, operation);
 }
 
-/// Shows readers a copy that has taken in all that lies in the queue of the copies, and then the operation.
+/// Shows readers a copy that has taken in all that lies in the queue of the copies and then the operation.
 #[inline(always)]
 fn turn_over<L: Named, R: Wait>(rt: &R, copies: &mut Copies<L>, operation: Operation)
     requires waits { MayShow L.opening L.book copies.old.desk.shown.value
@@ -451,8 +462,8 @@ fn turn_over<L: Named, R: Wait>(rt: &R, copies: &mut Copies<L>, operation: Opera
     show_all(rt, copies);
 }
 
-/// Puts the operation at the end of the queue of the copies, which got room for it at the opening. If there is no room
-/// and allocation fails, what lies in the queue is shown before.
+/// Puts the operation at the end of the queue of the copies, which has had room for it since the opening. Should there
+/// be no room and allocation fail, it first shows readers what lies in the queue.
 #[inline(always)]
 fn queue<L: Named, R: Wait>(rt: &R, copies: &mut Copies<L>, operation: Operation)
     requires waits { MayShow L.opening L.book copies.old.desk.shown.value
@@ -473,8 +484,8 @@ fn queue<L: Named, R: Wait>(rt: &R, copies: &mut Copies<L>, operation: Operation
     }
 }
 
-/// Makes room in the queue of the copies, by the operations that one of the copies still lacks. Shows readers what
-/// waits, or does nothing that they see.
+/// Makes room in the queue of the copies: shows readers what lies there, so that the operations that both copies have
+/// leave the queue. If that fails, readers see nothing new.
 #[cold]
 #[inline(never)]
 fn make_room<L: Named, R: Wait>(rt: &R, copies: &mut Copies<L>)
@@ -488,7 +499,7 @@ fn make_room<L: Named, R: Wait>(rt: &R, copies: &mut Copies<L>)
     let _ = replace_with(copies, rt, show_once::<L, R>);
 }
 
-/// Shows readers a copy that has taken in all. It tries again if a text has as many owners as can be counted.
+/// Shows readers a copy that has taken in the whole queue. It tries again while the reference count of a text is full.
 fn show_all<L: Named, R: Wait>(rt: &R, copies: &mut Copies<L>)
     requires { MayShow L.opening L.book copies.old.desk.shown.value
         (drop copies.old.behind copies.old.log.items) }
@@ -502,7 +513,8 @@ fn show_all<L: Named, R: Wait>(rt: &R, copies: &mut Copies<L>)
     }
 }
 
-/// Shows readers a copy that has taken in all, or nothing new if a text has as many owners as can be counted.
+/// Shows readers a copy that has taken in the whole queue. If the reference count of a text is full, it fails, and
+/// readers see nothing new.
 fn show_once<L: Named, R: Wait>(copies: Copies<L>, rt: &R) -> (Copies<L>, Result<(), AllocError>)
     requires { MayShow L.opening L.book copies.desk.shown.value (drop copies.behind copies.log.items) }
     ensures shown { OnOk result.1 (result.0.desk.shown.value

@@ -13,7 +13,7 @@ use Rattle.ps_index.specs.Inside.Columns.{AreBelow, IsBelowLevel, IsColumn, IsFr
 use Rattle.ps_index.specs.Inside.Nodes.{key_of}
 use Rattle.ps_index.specs.Spans.{cell_of}
 
--- where an element of a longer list was
+-- where an element of the list with one more span stood before
 pub data Was (p i : ℕ) (new : Span) (before : ℕ → Span) (x : Span) : Type 0 where
   was_before : i < p → new ≡ before i → Was p i new before x
   was_put : i ≡ p → new ≡ x → Was p i new before x

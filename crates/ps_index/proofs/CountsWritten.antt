@@ -40,7 +40,7 @@ row_written ends last row small there = elim (cases_lt last row) [
   ))
 ]
 
--- up to a row that isn't before it, a row comes before another where it comes before it itself
+-- if row isn't after last, comparing row with j or with min j last gives the same
 same_side : (row last j : ℕ) → row ≤ last → nat_le row (min j last) ≡ nat_le row j
 same_side row last j le = elim (cases_lt j row) [
   | inl lt ↦ (let no : nat_le row j ≡ false = grind (arith, nat_tests, lt) in

@@ -20,7 +20,7 @@ pub(crate) struct Places {
 
 /// How many spans of a column are stored up to each row. A contract sees it as the list of these counts, from row 0 on.
 ///
-/// They are written up to the last row at which a span was ever stored. Each row after that has its count.
+/// Counts are stored up to the last row at which a span was ever stored. Each later row has that row's count.
 #[derive(Drop)]
 pub(crate) struct RowCounts {
     /// the counts of the rows from 0 up to the last one; there is room for all
@@ -52,7 +52,7 @@ impl RowCounts {
         Ok(RowCounts { ends })
     }
 
-    /// Where the spans stand that are stored at a row.
+    /// Returns the places of the spans that are stored at a row.
     #[inline(always)]
     pub(crate) fn kept_at(&self, row: usize) -> Places
         requires some { 1 ≤ row }
@@ -83,7 +83,7 @@ impl RowCounts {
         raise_from(&mut self.ends, row);
     }
 
-    /// Counts one less at the row, at which a span is stored, and at each row after it.
+    /// Counts one less at a row at which a span is stored, and at each row after it.
     pub(crate) fn lower(&mut self, row: usize)
         requires in_grid { row ≤ ROWS }
         requires there { get_or self.old (row - 1) 0 < get_or self.old row 0 }
@@ -96,7 +96,7 @@ impl RowCounts {
     }
 }
 
-/// Writes the counts of the rows up to this one: those after the last one have the count of that.
+/// Extends the counts to this row, if they end before it: each new count is the last one.
 fn extend(ends: &mut Vec<u32>, row: usize)
     requires some { 0 < length ends.old.items }
     requires room { row < vec_capacity ends.old }

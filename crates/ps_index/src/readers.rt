@@ -4,17 +4,17 @@ use crate::row::RowReaders;
 use crate::two_rows::TwoRowReaders;
 use ps_grid::Cell;
 
-/// The cells that refer to a cell, if their spans are stored at two rows at most.
+/// The cells that refer to a cell, as `Index::readers` returns them.
 #[derive(Drop)]
 pub enum Readers<'a> {
     /// No cell refers to it.
     Nobody,
     /// This cell alone refers to it.
     One(Cell),
-    /// These cells refer to it, and no others.
+    /// These cells refer to it, and no others; their spans are stored at one row.
     Row(RowReaders<'a>),
     /// These cells refer to it, and no others; their spans are stored at two rows.
     TwoRows(TwoRowReaders<'a>),
-    /// Several cells may refer to it, or one, or none: `Index::dependents` walks them.
+    /// Any number of cells may refer to it: `Index::dependents` iterates over them.
     Several,
 }

@@ -13,10 +13,10 @@ use crate::spans::Spans;
 use ps_grid::{Cell, ROWS};
 use std::marker::Model;
 
-/// A walk of the cells that refer to a cell of a column without ranges, in order and each once. A contract sees it as
-/// the list of those that are still to come.
+/// An iterator over the cells that refer to a cell of a column without spans of several rows, in order and each once. A
+/// contract sees it as the list of the cells that are still to come.
 ///
-/// Cost: a step looks at one span, and at one more for each further formula of a cell that came already.
+/// Cost: a step looks at one span, and at one more for each further formula of the cell before.
 #[derive(Drop)]
 pub struct RowReaders<'a> {
     /// the spans of the column

@@ -9,10 +9,10 @@ ghost use Rattle.ps_index.specs.Inside.Places.{IsFirstRun, covers_place, covered
 
 use ps_grid::{COLUMNS, ROWS, Rect};
 
-/// The places of a column.
+/// How many places a column has.
 pub(crate) const STRIDE: usize = ROWS + 1;
 
-/// The places of all columns.
+/// How many places all columns have.
 pub(crate) const PLACES: usize = COLUMNS * STRIDE;
 
 /// Where a rectangle lies: its first and last column, from 0, its first and last row, from 1, and their places.
@@ -69,7 +69,7 @@ pub(crate) struct Run {
     pub(crate) end: usize,
 }
 
-/// The first places of the rectangle from a place on, in one column.
+/// Returns the first run of places from `place` on that the rectangle covers.
 fn first_run(rect: Rect, place: usize) -> Run
     requires place { place ≤ PLACES }
     ensures { IsFirstRun (covers_place rect) place result.from result.end }
@@ -140,7 +140,7 @@ pub(crate) fn next_run(rects: &[Rect], place: usize) -> Run
     }
 }
 
-/// The place after the rectangle's rows, where it covers the place; else the place.
+/// Returns the place after the rectangle's last row in this column if the rectangle covers `place`, or else `place`.
 fn passed(rect: Rect, place: usize) -> usize
     requires place { place ≤ PLACES }
     ensures from { place ≤ result }
@@ -165,7 +165,8 @@ fn passed(rect: Rect, place: usize) -> usize
     }
 }
 
-/// A place up to which all is covered from `place` on; `place` itself only if it isn't covered.
+/// Returns a place such that the rectangles cover all places from `place` up to it. It is `place` itself only if they
+/// don't cover that.
 fn passed_all(rects: &[Rect], place: usize) -> usize
     requires place { place ≤ PLACES }
     ensures from { place ≤ result }

@@ -13,8 +13,8 @@ use std::marker::Model;
 
 /// The spans of a column, in the order in which the index stores them. A contract sees it as the list of them.
 ///
-/// The free places stand where the last span was put in or taken out. The next one mostly comes near there, and then
-/// few spans move.
+/// This is a gap buffer: the free places stand where the last span was put in or taken out. The next change is mostly
+/// near, so it moves few spans.
 #[derive(Drop)]
 pub struct Spans {
     /// the spans, and the free places among them
@@ -93,7 +93,7 @@ impl Spans {
 
     /// Takes the span at a position out.
     ///
-    /// Cost: as of `insert`.
+    /// Cost: as for `insert`.
     pub(crate) fn remove(&mut self, index: usize)
         requires { index < length self.old }
         ensures { self.new ≡ remove self.old index }
@@ -113,8 +113,8 @@ struct Room {
     free: usize,
 }
 
-/// Returns where some places are free: if none is, adds some behind all spans, by writing this one there. Fails only
-/// when out of memory.
+/// Returns where places are free. If none is, adds some behind all spans first, and fills them with copies of `span`.
+/// Fails only when out of memory.
 fn room_for(places: &mut Vec<Span>, front: usize, free: usize, span: &Span) -> Result<Room, Refusal>
     requires { front + free ≤ length places.old.items }
     ensures some { IfOk result (λ room. 0 < room.free) }

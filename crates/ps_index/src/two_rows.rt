@@ -15,21 +15,22 @@ use crate::walk::passed;
 use ps_grid::{CELLS, Cell, ROWS};
 use std::marker::Model;
 
-/// The first span left of a run: its place, and its cell, which is `CELLS` if nothing is left.
+/// The first span left of a run (the spans stored at one row): its place, and its cell. The cell is `CELLS` if nothing
+/// is left.
 #[derive(Clone, Copy)]
 struct Head {
     place: usize,
     cell: usize,
 }
 
-/// A walk of the cells that refer to a row of a column whose ranges are all stored at one level, in order and each
-/// once.
+/// An iterator over the cells that refer to a cell of a column whose spans of several rows are all stored at one level
+/// of the tree of rows. It yields the cells in order and each once.
 ///
-/// Their spans are stored at the row itself, and at the one row of that level which is above it in the tree. A contract
-/// sees the walk as the list of those that are still to come.
+/// Their spans are stored at the cell's row, and at the one row of that level which is above it in the tree. A contract
+/// sees the iterator as the list of the cells that are still to come.
 ///
-/// Cost: a step looks at the spans that it passes over: that of its cell, others of cells that came already, and such
-/// as don't have the row.
+/// Cost: a step passes over the spans of the cell that it yields, and over spans that don't have the row, up to the
+/// next cell.
 #[derive(Drop)]
 pub struct TwoRowReaders<'a> {
     /// the spans of the column
@@ -129,7 +130,7 @@ fn head_from(spans: &Spans, row: usize, least: usize, from: usize, to: usize) ->
     }
 }
 
-/// The head of a run after the cell `first` came; no cell that is left is below that one.
+/// Returns the head of a run once the iterator has yielded the cell `first`. No cell that is left is below `first`.
 #[inline(always)]
 fn past(spans: &Spans, row: usize, first: usize, head: Head, end: usize) -> Head
     requires at { IsAt spans.now row head.place end head.cell }

@@ -156,7 +156,7 @@ left_more f walked left left2 left3 e so_far one new q =
     rw (in-push_other walked q e ne) (omega (arith, o, h)))
     (cases_eq q e)
 
--- one more cell is looked at: it adds where it is pending
+-- one more cell is looked at, a pending one: it counts if q refers to it
 pub cells_left-look : (refers : References) (p : ℕ → Bool) (n q : ℕ) → p n ≡ true
     → cells_left refers p [] (n + 1) q ≡ cells_left refers p [] n q + as_one (refers q n)
 cells_left-look refers p n q pn =
@@ -211,7 +211,7 @@ listing p (suc n) =
     ))
     (bool_cases (p n))
 
--- what is counted where a cell is listed is counted, as each that counts is listed
+-- a reference that is counted only if it is listed is counted in any case, as each reference is listed
 pub listed_alone : (a m r : Bool) → (r ≡ true → a ≡ true) → (a && (m && r)) ≡ (m && r)
 listed_alone a m true lists = ap (λ b. b && (m && true)) (lists refl)
 listed_alone a m false lists = ap (λ b. a && b) (and_false m) ∙ (and_false a ∙ sym (and_false m))

@@ -1,12 +1,12 @@
--- What a region shows after a change, and what must hold of it, by chains alone.
+-- What a mark finds: the region of a change, its levels and its cyclic cells, described by chains of references alone.
 use Rattle.std.specs.Prelude.{◌≡◌, ◌-◌, ◌<◌, ◌≤◌, ℕ, Bool, true, false, not, ◌&&◌, List, length, nat_eq}
 use Rattle.std.specs.Prelude.{slice_index, slice_index_or, slice_range}
 use Rattle.std.specs.List.{IsDistinct, list_any}
 use Rattle.ps_grid.specs.Chains.{References, In, IsCyclic, InRegion, IsDepth}
 
--- the cells of the region; those of its levels one level after the other, with the place where each level begins and
--- the place after the last one; for each cell how many cyclic cells it refers to; the members without a formula; and
--- the cyclic cells of the region
+-- `members` has the cells of the region; `order` the cells of its levels, one level after the other; `starts` the place
+-- where each level begins, and the place after the last one; `left` for each cell how many cyclic cells it refers to;
+-- `plain` marks the members without a formula; `cyclic` has the cyclic formula cells of the region
 pub record Found : Type 0 where
   pub members : List ℕ
   pub order : List ℕ
@@ -27,18 +27,18 @@ level_cells f k = slice_range f.order (slice_index f.starts (k - 1)) (slice_inde
 abbrev pub has_left : Found → ℕ → Bool
 has_left f c = list_any (nat_eq c) f.members && not (slice_index_or f.plain c false)
 
--- a formula cell of the region that reaches no cycle
+-- FRAME: a formula cell of the region that reaches no cycle
 abbrev pub IsFrame : References → (ℕ → Bool) → List ℕ → ℕ → Type 0
 IsFrame refers formula touched c =
     InRegion refers touched c × (formula c ≡ true) × (IsCyclic refers c → ⊥)
 
--- n numbers have the fact, and no more
+-- exactly n numbers have the property P
 abbrev pub IsCount : (ℕ → Type 0) → ℕ → Type 0
 IsCount P n =
     (ds : List ℕ) × IsDistinct nat_eq ds × ((d : ℕ) → In ds d → P d) × ((d : ℕ) → P d → In ds d) × (length ds ≡ n)
 
--- The members are the region, the levels its formula cells that reach no cycle by their depth among themselves, the
--- cyclic cells those that reach one.
+-- the members are the region; level k has the cells of the frame with depth k in the frame; the cyclic cells are the
+-- formula cells of the region that reach a cycle
 pub record IsFound (refers : References) (formula : ℕ → Bool) (touched : List ℕ) (f : Found) : Type 0 where
   pub region_sound : (c : ℕ) → In f.members c → InRegion refers touched c
   pub region_complete : (c : ℕ) → InRegion refers touched c → In f.members c

@@ -6,7 +6,7 @@ use Rattle.ps_grid.specs.declared.size.TheConstants.{CELLS}
 use Rattle.ps_region.specs.Found.{IsFrame}
 use Rattle.ps_region.specs.Laws.{DifferAtTouched}
 
--- what the formula of a cell is worth, where each cell is worth what it is
+-- the value of a cell by its formula, given the value of each cell
 abbrev pub Evaluation : Type 0 → Type 0
 Evaluation V = ℕ → (ℕ → V) → V
 
@@ -41,7 +41,7 @@ OutsideKeeps V =
     → IsChange V old new touched before after fault v w
     → (c : ℕ) → (InRegion new touched c → ⊥) → w c ≡ v c
 
--- a cell of the frame that is no work keeps its value, if it can be decided whether two values are one
+-- a cell of the frame that is no work keeps its value, if it is decidable whether two values are equal
 abbrev pub QuietKeeps : Type 0 → Type 0
 QuietKeeps V =
     ((x y : V) → (x ≡ y) ⊎ (x ≡ y → ⊥))

@@ -8,7 +8,8 @@ ghost use Rattle.std.specs.List.{list_any};
 
 use ps_grid::{Cell, Rect};
 
-/// The formulas after a change: which cells have one, and what these refer to.
+/// The formulas after a change, as the caller of `Region::mark` knows them: which cells have one, and what each formula
+/// refers to.
 pub trait After {
     /// whether the formula of the first cell refers to the second
     ghost refers: { Self → References };

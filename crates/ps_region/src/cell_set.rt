@@ -12,16 +12,18 @@ use ps_grid::{CELLS, COLUMNS, Cell, ROWS, Refusal};
 use std::alloc::Global;
 use std::marker::Model;
 
-/// The rows of a block.
+/// How many rows a block has.
 pub(crate) const HIGH: usize = 64;
 
-/// The blocks of a column.
+/// How many blocks a column has.
 pub(crate) const BLOCKS: usize = ROWS / HIGH;
 
 const _: () = prove!(BLOCKS * HIGH == ROWS);
 
-/// A set of cells of the grid. It also counts its cells in each block, which is 64 rows of one column, so that a walk
-/// down a range passes over the blocks without any. A contract sees it as a table: for each cell whether it is in.
+/// A set of cells of the grid.
+///
+/// It also counts its cells in each block, which is 64 rows of one column. So a scan of a range skips blocks without
+/// cells of the set. A contract sees the set as a table: for each cell whether it is in the set.
 #[derive(Drop)]
 pub struct CellSet {
     // for each cell whether it is in the set

@@ -1,4 +1,4 @@
-//! A change, as a mark reads it.
+//! A change, as `Region::mark` reads it.
 
 ghost use Rattle.std.specs.Prelude.{◌≡◌, length, true, false, slice_index_or};
 ghost use Rattle.ps_grid.specs.declared.size.TheConstants.{CELLS as ALL};
@@ -23,7 +23,8 @@ pub(crate) struct MarkedChange<'a, A> {
     pub plain: &'a [bool],
 }
 
-/// Whether a listed cell refers there after the change. The formula is asked only if the cell is touched.
+/// Returns whether the cell `e`, which the index lists for the cell `d`, refers to `d` after the change. An untouched
+/// cell always does, so only the formula of a touched one is looked at.
 pub(crate) fn still_refers<A: After>(change: &MarkedChange<'_, A>, e: Cell, d: Cell) -> bool
     requires length { length change.now.fresh.now ≡ ALL }
     requires known { slice_index_or change.now.fresh.now e false ≡ false

@@ -18,7 +18,7 @@ use crate::noted::{NONE, noted_with};
 use ps_grid::Cell;
 use ps_index::Readers;
 
-/// Counts one more reference.
+/// Counts one more reference of the cell `e`.
 pub(crate) fn add_one(left: &mut [u32], e: Cell)
     requires length { length left.old ≡ ALL }
     requires small { slice_index left.old e < ALL }
@@ -27,7 +27,8 @@ pub(crate) fn add_one(left: &mut [u32], e: Cell)
     left[e.index()] += 1;
 }
 
-/// Whether the reference of a listed cell is counted.
+/// Returns whether the reference of `e`, which the index lists for `d`, counts: `counted` says whether references to
+/// `d` do, and `e` must still refer to `d`.
 fn is_counted<A: After>(change: &MarkedChange<'_, A>, counted: bool, e: Cell, d: Cell) -> bool
     requires length { length change.now.fresh.now ≡ ALL }
     requires known { slice_index_or change.now.fresh.now e false ≡ false
@@ -37,7 +38,8 @@ fn is_counted<A: After>(change: &MarkedChange<'_, A>, counted: bool, e: Cell, d:
     counted && still_refers(change, e, d)
 }
 
-/// Puts the cell `e`, which refers to the cell `d`, into the region, and counts its reference if `d` is a formula cell.
+/// Puts the cell `e`, which the index lists for the cell `d`, into the region. Counts its reference if `d` is a formula
+/// cell and `e` still refers to it.
 fn enter_one<A: After>(
     change: &MarkedChange<'_, A>,
     marks: &mut [bool],
@@ -69,8 +71,8 @@ fn enter_one<A: After>(
     }
 }
 
-/// Puts each cell of a walk into the region, and counts its reference if `d` is a formula cell. The walk has the cells
-/// that refer to the cell `d`. Returns the number that notes them.
+/// Does what `enter_one` does, for each cell that `walk` yields: the cells that the index lists for `d`. Returns the
+/// number that notes them (see `noted`).
 fn enter_each<A: After, W: Iterator<Item = Cell> + Drop>(
     change: &MarkedChange<'_, A>,
     marks: &mut [bool],
@@ -113,8 +115,8 @@ fn enter_each<A: After, W: Iterator<Item = Cell> + Drop>(
     noted
 }
 
-/// Puts each cell that refers to the cell `d` into the region, and counts its reference if `d` is a formula cell. Notes
-/// which these are, if they are few. They are walked only if there may be several.
+/// Does what `enter_one` does, for each cell that the index lists for the cell `d`. Notes in `sole` which these cells
+/// are, if they are one or two.
 fn enter_dependents<A: After>(
     change: &MarkedChange<'_, A>,
     marks: &mut [bool],
@@ -165,7 +167,7 @@ fn enter_dependents<A: After>(
 }
 
 /// Grows the region from the touched cells, and counts each member's references to formula cells of the region. Notes
-/// for each member which cells refer to it, if they are few.
+/// for each member which cells refer to it, if they are one or two (see `noted`).
 pub(crate) fn grow<A: After>(
     change: &MarkedChange<'_, A>,
     marks: &mut [bool],

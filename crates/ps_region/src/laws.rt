@@ -1,4 +1,4 @@
-//! Laws of regions and of what an index lists. Each is a function that does nothing, and its contract is the law.
+//! Laws of regions and of what an index lists. Each law is the contract of a function that does nothing.
 
 ghost use Rattle.std.specs.Prelude.{◌≡◌, ℕ, ◌<◌, nat_eq};
 ghost use Rattle.std.specs.List.{list_any};
@@ -10,8 +10,8 @@ ghost use Rattle.ps_region.specs.Values.{OutsideKeeps, QuietKeeps};
 
 use ps_index::Index;
 
-/// States that an index lists for a cell exactly those cells that have a formula which refers to it, among the formulas
-/// that the index stands for.
+/// States that an index lists for a cell `d` exactly the cells with a formula that refers to `d`, by the formulas that
+/// the index stands for. What an index lists for `d` is what `Index::dependents` yields.
 pub fn listed_cells_refer(index: &Index)
     ensures { (forms : Puts) → Stands index.now forms → (c d : ℕ) → c < ALL → d < ALL
         → list_any (nat_eq c) (listed index.now d) ≡ refers forms c d }
@@ -27,13 +27,14 @@ pub fn cycles_stay_outside()
     ensures { SameCyclicOutside }
 {}
 
-/// States that each cell outside the region keeps its value, whatever formulas are worth, as long as that depends only
-/// on the cells that they refer to.
+/// States that each cell outside the region keeps its value. It holds for any evaluation of formulas whose results
+/// depend only on the cells that the formula refers to.
 pub fn cells_outside_keep_their_values<V>()
     ensures { OutsideKeeps V }
 {}
 
-/// States that a cell of the frame keeps its value if it isn't touched and refers to no cell whose value changes.
+/// States that a formula cell of the region that reaches no cycle keeps its value if the cell isn't touched and refers
+/// to no cell whose value changes.
 pub fn quiet_cells_keep_their_values<V>()
     ensures { QuietKeeps V }
 {}

@@ -1,4 +1,8 @@
-//! The levels of a region's formula cells, and the cells that are left without one.
+//! The levels of a region's formula cells, and the cells that are left without one: a topological sort.
+//!
+//! For each formula cell, `left` counts its references that aren't released yet. Once its count is 0, the cell gets its
+//! level and goes to the end of the queue `order`. In the queue's order, each cell then releases the references to it:
+//! the counts of the cells that refer to it fall by one. A formula cell that never gets into the queue reaches a cycle.
 
 ghost use Rattle.std.specs.Prelude.{◌≡◌, ◌≢◌, ◌-◌, ◌≤◌, ◌<◌, ◌∷◌, ◌++◌, [], length, ℕ, true, false, slice_index};
 ghost use Rattle.std.specs.Prelude.{slice_index_or, slice_set, filter, vec_capacity};
@@ -74,7 +78,8 @@ fn lower(left: &mut [u32], level: &mut [u32], order: &mut Vec<Cell>, e: Cell, k:
     }
 }
 
-/// Counts the reference of the one cell that is listed for the cell `d` as released.
+/// Counts the reference of the cell `e` to the cell `d` as released, if `e`, which the index lists for `d`, still
+/// refers to it.
 fn release_sole<A: After>(
     change: &MarkedChange<'_, A>,
     left: &mut [u32],
@@ -102,7 +107,7 @@ fn release_sole<A: After>(
     }
 }
 
-/// Counts the reference of each cell of a walk as released. The walk has the cells that refer to the cell `d`.
+/// Counts the references to the cell `d` as released. `walk` yields the cells that the index lists for `d`.
 fn release_each<A: After, W: Iterator<Item = Cell> + Drop>(
     change: &MarkedChange<'_, A>,
     left: &mut [u32],
@@ -135,7 +140,7 @@ fn release_each<A: After, W: Iterator<Item = Cell> + Drop>(
     }
 }
 
-/// Counts the references of the two cells that are listed for the cell `d` as released.
+/// Counts the references to the cell `d` as released, where the index lists two cells for `d`.
 fn release_pair<A: After>(
     change: &MarkedChange<'_, A>,
     left: &mut [u32],
@@ -164,8 +169,7 @@ fn release_pair<A: After>(
     release_sole(change, left, level, order, d, pair.1, k);
 }
 
-/// Counts each reference to the cell `d` as released: by what is noted if few cells refer there, or else by a walk of
-/// the index.
+/// Counts each reference to the cell `d` as released. If `sole` notes which cells refer to `d`, the index isn't read.
 fn release<A: After>(
     change: &MarkedChange<'_, A>,
     sole: &[u32],
@@ -208,7 +212,8 @@ fn release<A: After>(
     }
 }
 
-/// Gives the cells of the queue, and those that they release, their levels, level after level.
+/// Gives levels to the cells of the queue and to those that they release, level after level. Writes to `starts` where
+/// each level begins in the queue, and at last where the queue ends.
 pub(crate) fn assign_levels<A: After>(
     change: &MarkedChange<'_, A>,
     marks: &[bool],
@@ -271,7 +276,7 @@ fn is_held_cell(plain: &[bool], left: &[u32], c: Cell) -> bool
     has_formula(plain, c) && left[c.index()] != 0
 }
 
-/// Lists the formula cells whose count is not 0.
+/// Lists the formula cells whose count isn't 0: the cyclic ones.
 pub(crate) fn list_held(plain: &[bool], left: &[u32], members: &[Cell], cyclic: &mut Vec<Cell>)
     requires plain_length { length plain.now ≡ ALL }
     requires left_length { length left.now ≡ ALL }

@@ -1,13 +1,16 @@
 //! The region of a change: the cells whose values may change, the order in which to evaluate their formulas, and those
 //! of them that reach a cycle.
 //!
-//! It is not the evaluator: it knows no values and no contents. It takes what the formulas refer to from an index and
-//! from an implementation of `After`. What the formulas are worth is the caller's.
+//! It is not the evaluator: it knows no values and no contents. It reads from an index and from an implementation of
+//! `After` what the formulas refer to. The caller evaluates the formulas.
+//!
+//! A cell is cyclic if its formula reaches a cycle: some chain of references from it has a cell twice. Touched cells
+//! are those that the change itself gives a new state.
 //!
 //! With `=[.A1]` in `B1`, `=[.B1]` in `C1` and `=[.C1]+[.B1]` in `D1`, a change of `A1`, which holds a number, has the
 //! region `A1`, `B1`, `C1`, `D1`. Level 1 is `B1`, level 2 `C1`, level 3 `D1`; `A1` is in no level, as it has no
-//! formula. If `B1` becomes `=[.D1]`, the three refer to one another: there is no level, all three are cyclic, and
-//! `left` of `D1` is 2.
+//! formula. If `B1` becomes `=[.D1]`, the three formulas form a cycle: there is no level, all three cells are cyclic,
+//! and `Region::left` of `D1` is 2, as `D1` refers to two of them.
 //!
 //! Use the contract of `Region::mark`. `IsFound` of `specs/Found.antt` describes what it finds, by chains of references
 //! alone:
@@ -19,12 +22,14 @@
 //!
 //! The index may still list what touched cells referred to before the change.
 //!
-//! Cost: `Region::new` takes the room for the tables, 31 bytes for each cell of the grid, and writes none of it. No
-//! other call takes memory. The first mark writes the tables that are read by cell, 15 bytes for each cell of the grid;
-//! no later mark passes over the grid. A mark costs the cells of the region and two walks of the references to each, or
-//! one walk if few cells refer there. If some cell is cyclic, it also looks up each reference of the region's formulas
-//! in the set of cyclic cells that it gets. It looks up a range in blocks of 64 rows, and cell by cell only in blocks
-//! that have a cyclic cell. How many cyclic cells there are elsewhere doesn't count.
+//! Cost: `Region::new` allocates the tables, 31 bytes for each cell of the grid, and writes none of it. No other call
+//! of a region allocates. The first `Region::mark` writes the tables that are read by cell, 15 bytes for each cell of
+//! the grid; no later mark passes over the grid.
+//!
+//! For each cell of the region, a mark iterates over the cells that refer to it: twice, or mostly once if they are two.
+//! If some cell is cyclic, the mark also looks up each reference of the region's formulas in the set of cyclic cells
+//! that it gets. It looks up a range in blocks of 64 rows, and cell by cell only in blocks that have a cyclic cell. How
+//! many cyclic cells there are elsewhere doesn't count.
 #![tactic(auto)]
 
 mod after;

@@ -1,21 +1,21 @@
-//! Which cells refer to a cell, noted in one number if they are few.
+//! Which cells refer to a cell, noted in one number: none, one, or two if the index of the first is below `FIRSTS`.
 
 ghost use Rattle.std.specs.Prelude.{◌≡◌, ◌≢◌, ◌+◌, ◌-◌, ◌*◌, ◌/◌, ◌%◌, ◌^◌, ◌<◌, ◌≤◌};
 ghost use Rattle.ps_grid.specs.declared.size.TheConstants.{CELLS as ALL};
 
 use ps_grid::{CELLS, Cell};
 
-/// Noted of a cell that no cell refers to.
+/// The number for a cell that no cell refers to.
 pub(crate) const NONE: u32 = CELLS as u32;
 
-/// Noted of a cell that several cells refer to, without saying which.
+/// The number for a cell that several cells refer to, if it doesn't say which.
 pub(crate) const SEVERAL: u32 = CELLS as u32 + 1;
 
-/// Two cells fit into the number if the first is below this one.
+/// Two cells fit into the number if the index of the first is below this.
 const FIRSTS: u32 = 40_000;
 
-/// The number that notes some cells and one more: the cell if it is the first, and both if it is the second and the
-/// first is among the `FIRSTS`. Else it is `SEVERAL`.
+/// Returns the number that notes the cells of the number `noted` and the cell `e`: `e` alone after `NONE`, and both
+/// cells after one with an index below `FIRSTS`. Otherwise it is `SEVERAL`.
 #[inline]
 pub(crate) fn noted_with(noted: u32, e: Cell) -> u32
     ensures first { noted ≡ ALL → result ≡ e }

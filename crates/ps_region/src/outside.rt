@@ -32,7 +32,8 @@ fn is_new_cell(set: &CellSet, marks: &[bool], rects: &[Rect], d: Cell) -> bool
     set.contains(d) && !marks[d.index()] && !cover(rects, d)
 }
 
-/// How many new cells a column of the rectangle has. It passes over the blocks in which the set has no cell.
+/// Returns how many new cells (those that pass `is_new_cell`) the column `across` of the rectangle has. It skips the
+/// blocks in which the set has no cell.
 fn count_rows(set: &CellSet, marks: &[bool], before: &[Rect], rect: Rect, across: usize) -> u32
     requires marks_length { length marks.now ≡ ALL }
     requires across { across < rect.width }
@@ -58,7 +59,7 @@ fn count_rows(set: &CellSet, marks: &[bool], before: &[Rect], rect: Rect, across
     count
 }
 
-/// How many new cells the rectangle has: those of the set outside the region that the rectangles before it don't have.
+/// Returns how many new cells the rectangle has: those of the set, outside the region, that no rectangle before it has.
 fn count_new(set: &CellSet, marks: &[bool], before: &[Rect], rect: Rect) -> u32
     requires { length marks.now ≡ ALL }
     ensures { result ≡ count_below (λ d. is_inside rect d && is_new set.now marks.now before.now d) ALL }
@@ -82,8 +83,8 @@ fn count_covered(set: &CellSet, marks: &[bool], rects: &[Rect]) -> u32
     count
 }
 
-/// Counts for each cell of the region its references to the cyclic cells outside: each formula of the region is asked
-/// which of the cells that it refers to are cyclic. If no cell is, none is asked.
+/// Adds to the count of each formula cell of the region its references to cyclic cells outside the region. If the set
+/// of cyclic cells is empty, it looks at no formula.
 pub(crate) fn count_outside<A: After>(
     change: &MarkedChange<'_, A>,
     marks: &[bool],

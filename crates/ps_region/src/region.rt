@@ -22,10 +22,12 @@ use ps_index::Index;
 use std::alloc::Global;
 use std::marker::Model;
 
-/// The region of the last change that was marked, with the scratch to find it. A contract sees it as what it found.
+/// The region of the last marked change (the cells whose values may change), with its levels and its cyclic cells.
+///
+/// It owns the working memory of [`Region::mark`]. A contract sees it as what the last mark found (`Found`).
 #[derive(Drop)]
 pub struct Region {
-    // for each cell whether it is a member; this table and the next five are empty up to the first mark
+    // for each cell whether it is a member; this table and the next five are empty until the first mark
     marks: Vec<bool>,
     // for each cell whether it was touched
     fresh: Vec<bool>,
@@ -33,9 +35,9 @@ pub struct Region {
     plain: Vec<bool>,
     // for each member how many of the cells that it refers to have no level
     left: Vec<u32>,
-    // for each cell of a level its number
+    // for each cell of a level the level's number
     level: Vec<u32>,
-    // for each member the number that notes which cells refer to it, if they are few
+    // for each member the number that notes which cells refer to it, if they are one or two (see `noted`)
     sole: Vec<u32>,
     // the cells of the region, each once
     members: Vec<Cell>,
@@ -60,8 +62,7 @@ impl Model for Region {
 }
 
 impl Region {
-    /// Returns a region without cells, levels or cyclic cells, with room for the whole grid. No other call takes
-    /// memory.
+    /// Returns a region without cells, levels or cyclic cells, with room for the whole grid. No other call allocates.
     ///
     /// Fails only when out of memory.
     ///
@@ -96,10 +97,11 @@ impl Region {
         })
     }
 
-    /// Finds the region of a change, the levels of its formula cells and the cyclic ones. It takes no memory.
+    /// Finds the region of a change, the levels of its formula cells and the cyclic ones. It allocates no memory.
     ///
-    /// `index` lists the formulas after the change, and at most those that touched cells had before. `cyclic` has the
-    /// cells outside the region that are cyclic after the change, and may have any cells of the region.
+    /// `touched` has the cells that the change gives a new state, and `after` the formulas after it. `index` has these
+    /// formulas too, and may still have those that touched cells had before. `cyclic` has the cells outside the region
+    /// that are cyclic after the change, and may have any cells of the region.
     ///
     /// Cost: the cells of the region and the references to them. If `cyclic` isn't empty, also the references of the
     /// region's formulas. The first mark also writes six tables of the grid's size.
@@ -156,22 +158,26 @@ impl Region {
         place < self.marks.len() && self.marks[place]
     }
 
-    /// Returns the cells of the region, each once, in no order that is promised.
+    /// Returns the cells of the region, each once, in unspecified order.
     pub fn members(&self) -> &[Cell]
         ensures { result.now ≡ self.now.members }
     {
         &self.members
     }
 
-    /// Returns how many levels there are: the greatest depth of a formula cell of the region that reaches no cycle.
+    /// Returns how many levels the region has; see [`Region::level`].
     pub fn levels(&self) -> usize
         ensures { result ≡ level_count self.now }
     {
         self.starts.len().saturating_sub(1)
     }
 
-    /// Returns the formula cells of the region of depth `n` that reach no cycle. `n` is a level, 1 to `levels()`; for
-    /// any other number there is no cell.
+    /// Returns the cells of level `n`, each once: those to evaluate in step `n` of a recalculation.
+    ///
+    /// Levels are counted from 1 to `levels()`; for any other `n` the slice is empty. They have the formula cells of
+    /// the region that reach no cycle. Such a cell is in level `n` if the longest chain of references from it through
+    /// such cells has `n` cells, itself included. So it refers only to cells of lower levels and to cells outside the
+    /// levels.
     pub fn level(&self, n: usize) -> &[Cell]
         ensures inside { 0 < n → n ≤ level_count self.now → result.now ≡ level_cells self.now n }
         ensures other { level_count self.now < n → result.now ≡ [] }
@@ -199,10 +205,10 @@ impl Region {
         self.contains(c) && !self.plain[c.index()]
     }
 
-    /// Returns how many cyclic cells a formula cell of the region refers to; none for any other cell.
+    /// Returns how many cyclic cells the formula of a cell refers to; `None` unless it is a formula cell of the region.
     ///
-    /// Nothing in the program calls it. It is part of the public interface, and shows the counts by which the region
-    /// sorts cells into levels and cycles, as they stand after a mark.
+    /// Nothing in the program calls it. It is part of the public interface, and shows the counts by which a mark sorts
+    /// cells into levels and cycles. The count of a cell in a level is 0.
     pub fn left(&self, c: Cell) -> Option<usize>
         ensures { result ≡ (if has_left self.now c then Some (slice_index self.now.left c) else None) }
     {
@@ -214,7 +220,7 @@ impl Region {
     }
 }
 
-/// Fills a table that no mark wrote yet: each cell that it doesn't reach gets this value.
+/// Extends a table that no mark has written yet to the whole grid, with this value for each new cell.
 #[inline]
 fn fill<T: Copy>(table: &mut Vec<T>, value: T)
     requires short { length table.old.items ≤ ALL }

@@ -13,7 +13,7 @@ use Rattle.ps_cells.specs.Settled.{IsSettled}
 use Rattle.ps_sheet.specs.Sheet.{SheetView, IsSheet}
 use Rattle.ps_cells.proofs.SettledValues.{settled_at_most_once}
 
--- an accepted delta is joined in, whether it was appended or was below
+-- an accepted delta is joined in, whether it was appended or was below the state
 pub taken_joins : (d : Entries) (h k : List Entries) → Takes d h k
     → joined_history k ≡ joined_state (joined_history h) (state_of d)
 taken_joins d h k takes =

@@ -11,7 +11,7 @@ use Rattle.ps_delta.specs.Deltas.{Entries, state_of, joined_history}
 use Rattle.ps_sheet.specs.Sheet.{IsFresh}
 use Rattle.ps_delta.proofs.HistoryLemmas.{joined_history-push}
 
--- a history stays fresh where a delta is appended that isn't below its join
+-- a history stays fresh if a delta is appended that isn't below its join
 pub fresh_push : (h : List Entries) (d : Entries) → IsFresh h → ¬ IsBelow (state_of d) (joined_history h)
     → IsFresh (h ++ d ∷ [])
 fresh_push h d fresh new k lt =

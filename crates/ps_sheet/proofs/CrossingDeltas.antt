@@ -1,4 +1,4 @@
--- That a delta may go to another thread, where the state of a cell may, and where several threads may look at one.
+-- A delta may move to another thread, if the state of a cell may, and if several threads may read one.
 
 use denote.RattleType.{RattleType}
 use denote.Param.Send.{IsSend, IsSync, sendable, view_send}

@@ -29,7 +29,7 @@ use Rattle.ps_sheet.proofs.AppendedDeltas.{fresh_push}
 use Rattle.ps_sheet.proofs.Staged.{idle_state}
 use Rattle.ps_sheet.proofs.StagedChanges.{kept_idle}
 
--- none yet
+-- an empty list of arrivals follows the history
 pub follow_none : (h : List Entries) (a : ArrivalsView) → a.deltas ≡ [] → IsFresh h
     → state_at a.grid ≡ joined_state empty_state (joined_history h) → Follow h a
 follow_none h a none fresh joined =
@@ -39,7 +39,7 @@ follow_none h a none fresh joined =
       joined = joined ∙ joined_state-empty (joined_history h) ∙ ap joined_history (sym is);
     }
 
--- one more
+-- one more delta follows the history and the arrivals
 pub follow_more : (h : List Entries) (a b : ArrivalsView) (d : Entries) → Follow h a → b.deltas ≡ a.deltas ++ d ∷ []
     → ¬ IsBelow (state_of d) (state_at a.grid) → state_at b.grid ≡ joined_state (state_at a.grid) (state_of d)
     → Follow h b
@@ -53,7 +53,7 @@ follow_more h a b d follow more new joined =
           ∙ sym (joined_history-push (h ++ a.deltas) d) ∙ ap joined_history (sym is);
     }
 
--- the same ones, and what they come to
+-- arrivals with the same deltas and the same join follow the history too
 pub follow_same : (h : List Entries) (a b : ArrivalsView) → Follow h a → b.deltas ≡ a.deltas
     → state_at b.grid ≡ state_at a.grid → Follow h b
 follow_same h a b follow same state =
@@ -97,7 +97,7 @@ some_hold (d ∷ h) a follow some empty = some_fresh d (h ++ a.deltas) follow.fr
 pub not_covered : (P : Type 0) (b : Bool) → IsTrue b ↔ P → b ≡ false → ¬ P
 not_covered P b is off below = absurd (false≢true (sym off ∙ is.1 below))
 
--- what was recalculated where nothing was
+-- the report of no change: nothing was recalculated
 pub none_recalculated : (s : State) (v : Assignment) (e c l : ℕ) → e ≡ 0 → c ≡ 0 → l ≡ 0 → IsRecalculated s s v v e c l
 none_recalculated s v e c l no_value no_circle no_level =
     subst (λ n. IsRecalculated s s v v n c l) (sym no_value)
@@ -118,7 +118,7 @@ cells_are_delta (e ∷ es) s is same some = record {
 pub made_delta : (d es : Entries) → SomeIff (Some d) (IsDelta es) es → d ≡ es
 made_delta d es made = made.1
 
--- ---- the sheet once they are accepted
+-- ---- the sheet after the arrivals are accepted
 
 pub none_staged : (cells : CellsView) (o : Option Staged) → staged_of cells o ≡ None → o ≡ None
 none_staged cells None none = refl

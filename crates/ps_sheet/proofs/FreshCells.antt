@@ -16,7 +16,7 @@ use Rattle.ps_delta.proofs.StateLemmas.{joined_state-at}
 use Rattle.ps_delta.proofs.EntryLemmas.{state_of-here}
 use Rattle.ps_sheet.specs.Edits.{registered, counted, paired}
 
--- a delta is not below a state where it changes a cell
+-- a delta that changes a cell of a state is not below that state
 pub new_at : (s : State) (d : Entries) (c : ℕ) (x : CellState) → state_of d c ≡ x → ¬ (joined_cell (s c) x ≡ s c)
     → ¬ IsBelow (state_of d) s
 new_at s d c x is new below =

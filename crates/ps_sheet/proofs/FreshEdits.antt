@@ -87,7 +87,7 @@ edits_are_fresh r s (Unchoose c option) d delta h =
     (new_choice (s c) _
     (withdrawn_is_fresh (s c).choice option (not_false (is_chosen (s c).choice option) chosen.0)))
 
--- so is what an answer to an edit holds
+-- the delta that the answer to an edit has is not below the state either
 pub answers_are_fresh : (r : ℕ) (s t : State) (e : Edit) (answer : Result Entries Refusal) → s ≡ t
     → IfOk answer (λ d. delta_of_edit r s e ≡ Ok d) → IfOk answer IsDelta
     → IfOk answer (λ d. ¬ IsBelow (state_of d) t)

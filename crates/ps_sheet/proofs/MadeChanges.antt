@@ -1,4 +1,4 @@
--- What a staged change is once it was listed, and once it was made.
+-- A staged change after its cells were listed, and after it was made.
 use Rattle.std.proofs.Common.{◌≡◌, ◌++◌, ◌∷◌, [], ℕ, ◌+◌, ◌⊎◌, Bool, true, false, Option, Some, None, List, map}
 use Rattle.std.proofs.Common.{Result, Ok, Err, refl, sym, ap, ◌∙◌, subst, arith, ⊎_elim}
 use Rattle.std.specs.Prelude.{IsSomeAnd, IsOk, IsOkAnd, IsErrOf, IfOk, IfErr, OnOk, if◌then◌else◌}
@@ -28,7 +28,7 @@ use Rattle.ps_sheet.specs.declared.sheet.Report.{Report}
 pub idle_is_sheet : (x : StagingView) → x.staged ≡ None → IsStaging x → IsSheet (sheet_of x)
 idle_is_sheet x none staging = subst (IsStagedAs x) none staging
 
--- what is true of a change that is worked out doesn't hang on what was listed
+-- what holds of a change that is worked out doesn't depend on what was listed
 worked_same : (p q : PreparedView) → q.history ≡ p.history → q.delta ≡ p.delta → q.fresh ≡ p.fresh
     → q.shown ≡ p.shown → q.olds ≡ p.olds → q.report ≡ p.report → IsWorkedOut p → IsWorkedOut q
 worked_same p q history delta fresh shown olds report worked =
@@ -59,7 +59,7 @@ worked_same p q history delta fresh shown olds report worked =
     (subst (λ (os : List (ℕ × Kept)). IsWorkedOut (with p.history p.delta p.fresh p.shown os q.report)) (sym olds)
     (subst (λ (r : Report). IsWorkedOut (with p.history p.delta p.fresh p.shown p.olds r)) (sym report) same)))))
 
--- a change whose cells were listed, and then what they show
+-- a change after its cells were listed, and then what they show
 pub listed_prepared : (x y z : StagingView) (a b e : Option StagedView)
     → IsSomeAnd a (λ p. IsWorkedOut (prepared_of x p)) → y.history ≡ x.history → y.shown ≡ x.shown
     → z.history ≡ y.history → z.shown ≡ y.shown → IsSomeAnd a (λ p. IsSomeAnd b (IsSameChange p))
@@ -94,7 +94,7 @@ not_fresh : (b : Bool) → ¬ (b ≡ true) → b ≡ false
 not_fresh true h = absurd (h refl)
 not_fresh false h = refl
 
--- what a staged change makes of a sheet, once it was made
+-- the sheet after a staged change was made
 pub makes : (x y z : StagingView) (v : SheetView) (c : Change) (r q : Report) (o : Option StagedView) → sheet_of x ≡ v
     → y.history ≡ x.history → IsSomeAnd o (λ p. IsWorkedOut (prepared_of y p))
     → IsSomeAnd o (λ p. IsDeltaOf x.replica (joined_history x.history) c p.delta)
@@ -156,7 +156,8 @@ made_report x y z v q (Some p) is history worked before made told =
     p.report)
     (history ∙ ap (λ (w : SheetView). w.history) is) worked.report))))
 
--- the change q that was prepared over the sheet v has what v has, and is worked out over what v shows
+-- the change q was prepared over the sheet v: it has the replica and the history of v, and is worked out over what v
+-- shows
 pub prepared_over : (x y : StagingView) (v : SheetView) (q : PreparedView) (o : Option StagedView) → sheet_of x ≡ v
     → y.replica ≡ x.replica → y.history ≡ x.history
     → IsSomeAnd o (λ p. shown_before (prepared_of y p) ≡ shown_at x.shown)
@@ -171,21 +172,21 @@ prepared_over x y v q (Some p) is replica history before same = (
       ∙ before ∙ ap (λ (w : SheetView). shown_at w.shown) is,
 )
 
--- of the delta of an edit that was made
+-- if P holds of the delta of each made edit, it holds of the delta of this edit
 pub edit_made : (x y : SheetView) (e : Edit) (res : Result Report Refusal) (P : Entries → Type 0)
     → ((r : Report) (m : Makes x y (ByEdit e) r) → P m.delta) → IfOk res (λ r. Makes x y (ByEdit e) r)
     → OnOk res (IsOkAnd (delta_of_edit x.replica (joined_history x.history) e) P)
 edit_made x y e (Ok r) P f m = subst (λ (o : Result Entries Refusal). IsOkAnd o P) (sym m.of) (f r m)
 edit_made x y e (Err z) P f m = tt
 
--- of a delta d that was received
+-- if P holds of the delta of each made change, it holds of the received delta d
 pub delta_made : (x y : SheetView) (c : Change) (d : Entries) (res : Result Report Refusal) (P : Entries → Type 0)
     → ((e : Entries) → IsDeltaOf x.replica (joined_history x.history) c e → e ≡ d)
     → ((r : Report) (m : Makes x y c r) → P m.delta) → IfOk res (λ r. Makes x y c r) → OnOk res (P d)
 delta_made x y c d (Ok r) P is f m = subst P (is m.delta m.of) (f r m)
 delta_made x y c d (Err z) P is f m = tt
 
--- that memory ran out, and that it is the only cause there can be
+-- what follows from out of memory, and: a change with no other refusal fails only when out of memory
 pub memory_asked : (res : Result Report Refusal) (A : Type 0) → IfErr res (λ e. e ≡ Memory → A) → IsErrOf res Memory → A
 memory_asked (Ok r) A asked is = absurd (cc)
 memory_asked (Err e) A asked is = asked (cc)
@@ -194,7 +195,7 @@ pub memory_alone : (res : Result Report Refusal) → IfErr res (λ e. (e ≡ Mem
 memory_alone (Ok r) refused = tt
 memory_alone (Err e) refused = ⊎_elim (λ is. is) (λ never. absurd never) refused
 
--- where it is below the state, it is accepted, and all stays
+-- a delta below the state is accepted, and the sheet stays as it is
 pub below_made : (x y : SheetView) (c : Change) (d : Entries) (m n : ℕ) (res : Result Report Refusal)
     → ((e : Entries) → IsDeltaOf x.replica (joined_history x.history) c e → e ≡ d)
     → ((e : Refusal) → ¬ IsRefusedBy x.replica (joined_history x.history) c e)

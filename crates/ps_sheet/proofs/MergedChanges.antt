@@ -1,4 +1,4 @@
--- What a merge of a delta made of a sheet.
+-- A sheet after a merge of a delta.
 use Rattle.std.proofs.Common.{◌≡◌, ◌⊎◌, inl, inr, ◌∷◌, [], ℕ, ◌+◌, Option, Some, None, List, length}
 use Rattle.std.proofs.Common.{Result, Ok, Err, refl, sym, ap, ◌∙◌, subst, arith, ⊎_elim, true≢false, length-append}
 use Rattle.std.specs.Prelude.{◌↔◌, IsTrue, IsOk, IfOk, IfErr, OnOk}
@@ -20,7 +20,7 @@ use Rattle.ps_sheet.specs.declared.sheet.Report.{Report}
 pub news_is_fresh : (s : State) (d n : Entries) → IsNewsDelta s d n → ¬ IsBelow (state_of n) s
 news_is_fresh s d n news below = news.some (sym news.news.same ∙ below)
 
--- what a grid with this state told is new
+-- what a grid with this state returned as new
 pub news_found : (s t : State) (d : Entries) (res : Result (Option Entries) Refusal) → t ≡ s
     → IfOk res (λ o. IfSome o (λ n. IsNewsOf joined_state t (state_of d) (state_of n)))
     → IfOk res (λ o. IfSome o IsDelta)
@@ -38,7 +38,7 @@ merge_joins d h k (inl known) = ap joined_history known.1 ∙ sym known.0
 merge_joins d h k (inr new) = ap joined_history new.2 ∙ joined_history-push h new.0 ∙ new.1.news.same
 
 module _ (x y : SheetView) (d : Entries) where
-  -- where the delta is below the state, all stays
+  -- if the delta is below the state, the sheet stays as it is
   stays : (r : Report) → Makes x y (Merge d) r → IsBelow (state_of d) (joined_history x.history) → IsIdle x y r
   stays r made below = by made.of
     where
@@ -81,7 +81,7 @@ module _ (x y : SheetView) (d : Entries) where
       let idle = stays r made below in (idle.evaluated, idle.cyclic, idle.levels)
   merge_idle (Err e) made below = tt
 
-  -- the version stays where the delta is below the state, and there alone
+  -- the version stays exactly if the delta is below the state
   pub merge_known : (res : Result Report Refusal) → IfOk res (λ r. Makes x y (Merge d) r)
       → IfOk res (λ r. r.version ≡ length y.history)
       → IfOk res (λ r. (r.version ≡ length x.history) ↔ IsBelow (state_of d) (joined_history x.history))

@@ -1,4 +1,4 @@
--- What a sheet keeps, where nothing is staged in it, and where a change is.
+-- The invariant of a sheet, with nothing staged in it and with a staged change.
 use Rattle.std.proofs.Common.{◌≡◌, Option, Some, None}
 use Rattle.std.proofs.Common.{ap, ◌∙◌, subst}
 use Rattle.std.specs.Prelude.{IsSomeAnd}
@@ -27,7 +27,7 @@ module _ (x : Inside) (v : StagingView) (is : view_of x ≡ v) (none : v.staged 
 pub idle_before : (x : CellsView) → x.staged ≡ None → state_before x ≡ state_now x
 idle_before x none = ap (state_without (state_at x.grid)) none
 
--- the change of a value that is there
+-- what holds of the value of an option, and what follows from it
 pub of_some : {A : Type 0} (P Q : A → Type 0) (o : Option A) → ((p : A) → P p → Q p) → IsSomeAnd o P → IsSomeAnd o Q
 of_some P Q None f h = absurd h
 of_some P Q (Some p) f h = f p h

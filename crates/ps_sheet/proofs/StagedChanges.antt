@@ -1,4 +1,4 @@
--- What a sheet keeps once a change is staged, committed or cancelled in it.
+-- The invariant of a sheet after a change is staged, committed or cancelled in it.
 use Rattle.std.proofs.Common.{◌≡◌, ◌++◌, ◌∷◌, [], ℕ, ◌+◌, ◌<◌, ◌≤◌, Bool, true, false, Option, Some, None, List, map}
 use Rattle.std.proofs.Common.{is_some, refl, sym, ap, ◌∙◌, subst, length}
 use Rattle.std.proofs.Common.{Result, Ok, Err}

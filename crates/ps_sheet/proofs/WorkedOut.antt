@@ -1,4 +1,4 @@
--- What is true of a change that is worked out.
+-- What holds of a change that is worked out.
 use Rattle.std.proofs.Common.{◌≡◌, ◌++◌, ◌∷◌, [], ℕ, ◌+◌, List, true, false, inl, inr, length, refl, sym, ap}
 use Rattle.std.proofs.Common.{Bool, arith, subst}
 use Rattle.std.specs.Prelude.{if◌then◌else◌}

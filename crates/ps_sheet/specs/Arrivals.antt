@@ -12,20 +12,20 @@ pub record ArrivalsView : Type 0 where
   pub deltas : List Entries
   pub grid : Blocks
 
--- FOLLOW: none of the deltas is below the join of the history h and of those before it, and the grid holds all of them
+-- FOLLOW: no delta of a is below the join of the history h and of the deltas before it, and the grid of a holds the
+-- join of h and of all of them
 pub record Follow (h : List Entries) (a : ArrivalsView) : Type 0 where
   pub fresh : IsFresh (h ++ a.deltas)
   pub joined : state_at a.grid ≡ joined_history (h ++ a.deltas)
 
--- TAKEN IN: whether the delta d was added to the arrivals x, after the history h; y is what they are then. It is
--- added as the last one where it isn't below the join of those before it; else nothing changes
+-- TAKEN IN: the arrivals x, which follow the history h, became y when the delta d came. On true, d isn't below the join
+-- of h and x, and y is x with d at the end. On false, d is below that join, and nothing changed
 abbrev pub IsTakenIn : List Entries → ArrivalsView → ArrivalsView → Entries → Bool → Type 0
 IsTakenIn h x y d true =
     (¬ IsBelow (state_of d) (joined_history (h ++ x.deltas))) × (y.deltas ≡ x.deltas ++ d ∷ [])
 IsTakenIn h x y d false = IsBelow (state_of d) (joined_history (h ++ x.deltas)) × (y ≡ x)
 
--- MADE: to the arrivals x, after the history h, the delta of an edit at replica r was added as the last one; y is what
--- they are then
+-- MADE: the arrivals x, which follow the history h, became y: the delta of an edit at replica r was added at the end
 abbrev pub IsMade : ℕ → List Entries → ArrivalsView → Edit → ArrivalsView → Type 0
 IsMade r h x edit y =
     IsOkAnd (delta_of_edit r (joined_history (h ++ x.deltas)) edit) (λ d. y.deltas ≡ x.deltas ++ d ∷ [])

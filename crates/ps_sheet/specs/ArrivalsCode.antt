@@ -1,4 +1,4 @@
--- A code of what contracts see of arrivals. Nothing but the view of `Arrivals` uses it.
+-- A code of what contracts see of arrivals. Only the view of `Arrivals` uses it.
 use Rattle.std.specs.Prelude.{List, refl}
 use Rattle.std.specs.Coded.{Coded, code_by, coded×, coded_list}
 use Rattle.ps_delta.specs.State.{Blocks}

@@ -1,4 +1,4 @@
--- What an edit at a replica makes of a state: its delta, or the first refusal that holds.
+-- What an edit at a replica gives over a state: its delta, or the first refusal that holds.
 use Rattle.std.specs.Prelude.{◌≡◌, ℕ, ◌+◌, Bool, true, false, not, ◌==◌, nat_lt, nat_le, List, [], ◌∷◌}
 use Rattle.std.specs.Prelude.{map as each, Option, Some, None, Result, Ok, Err}
 use Rattle.std.specs.List.{list_any}
@@ -20,7 +20,7 @@ use Rattle.ps_cells.specs.Settled.{content_of}
 use Rattle.ps_delta.specs.declared.edit.Edit.{Edit}
 use Rattle.ps_delta.specs.declared.edit.Edit.TheVariants.{Set, SetAll, Add, Sub, Choose, Unchoose}
 
--- the refusal where the test holds, and else the answer
+-- the refusal if the test holds, and else the answer
 abbrev pub refused_if : Bool → Refusal → Result Entries Refusal → Result Entries Refusal
 refused_if true refusal answer = Err refusal
 refused_if false refusal answer = answer
@@ -33,11 +33,11 @@ abbrev pub holds_choice : Content → Bool
 holds_choice Choice = true
 holds_choice _ = false
 
--- whether the register has the last time
+-- whether the time of the register is LAST_TIME, so that nothing more can be assigned
 abbrev pub is_clock_full : CellState → Bool
 is_clock_full x = time_of x.register == LAST_TIME
 
--- a cell with nothing but a register, nothing but counts, or nothing but pairs
+-- the state of a cell that has only a register, only counts, or only pairs
 abbrev pub registered : Option (Assignment Content) → CellState
 registered register = record { register = register; tally = map.empty; choice = map.empty }
 
@@ -47,11 +47,11 @@ counted counts = record { register = None; tally = counts; choice = map.empty }
 abbrev pub paired : Pairs → CellState
 paired pairs = record { register = None; tally = map.empty; choice = pairs }
 
--- the assignment of a content at replica r, a time above that of the cell's register
+-- the assignment of a content at replica r, at the time after that of the cell's register
 abbrev pub assigned : ℕ → CellState → Content → CellState
 assigned r x content = registered (Some (record { time = time_of x.register + 1; replica = r; content = content }))
 
--- cells with contents: 13 for any of them refuses the whole
+-- the delta that assigns contents to cells; if any of their registers has the last time, the whole batch is refused
 abbrev pub delta_of_batch : ℕ → State → List (ℕ × Content) → Result Entries Refusal
 delta_of_batch r s cells =
     refused_if (list_any (λ e. is_clock_full (s e.0)) cells) ClockFull

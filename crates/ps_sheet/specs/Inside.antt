@@ -1,3 +1,3 @@
--- What a sheet keeps, and what makes the delta of an edit answers, in words that no public contract cites.
+-- What a sheet stores, and what the function that makes the delta of an edit returns. No public contract cites these.
 pub mod Kept
 pub mod Makes

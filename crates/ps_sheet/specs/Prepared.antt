@@ -1,4 +1,4 @@
--- A change of a sheet that is worked out, and not yet made: the sheet before it, and what it is after it.
+-- A change of a sheet that is worked out, and not yet made: the sheet before the change, and after it.
 use Rattle.std.specs.Prelude.{◌≡◌, ℕ, ◌↔◌, Bool, true, if◌then◌else◌, List, [], ◌∷◌, ◌++◌, length}
 use Rattle.std.specs.Prelude.{Ok, Err, IsOk}
 use Rattle.ps_grid.specs.declared.refusal.Refusal.{Refusal}
@@ -18,9 +18,9 @@ use Rattle.ps_sheet.specs.declared.sheet.Report.{Report}
 use Rattle.ps_delta.specs.declared.edit.Change.{Change}
 use Rattle.ps_delta.specs.declared.edit.Change.TheVariants.{Edit, Delta, Merge}
 
--- the sheet's replica and history before the change; the change's delta, and whether it is to be appended; what each
--- cell shows after the change, and what some showed before it; the cells that show another value, with it; the report;
--- and the number of workers
+-- The replica and the history are those of the sheet before the change. `fresh` says whether the delta is to be
+-- appended. `shown` is what each cell shows after the change. `olds` lists the cells whose shown value was written,
+-- with what they showed before. `changes` lists the cells that show another value, with the new value.
 pub record PreparedView : Type 0 where
   pub replica : ℕ
   pub history : List Entries
@@ -43,13 +43,13 @@ shown_after p = shown_at p.shown
 abbrev pub history_after : PreparedView → List Entries
 history_after p = if p.fresh then (p.history ++ p.delta ∷ []) else p.history
 
--- a sheet with this replica, this history and these values
+-- the sheet x has the replica r and the history h, and shows the values v
 pub record IsOf (x : SheetView) (r : ℕ) (h : List Entries) (v : Assignment) : Type 0 where
   pub replica : x.replica ≡ r
   pub history : x.history ≡ h
   pub shown : shown_at x.shown ≡ v
 
--- what is true of each prepared change
+-- what holds of each prepared change
 pub record IsPrepared (p : PreparedView) : Type 0 where
   pub takes : Takes p.delta p.history (history_after p)
   pub fresh : (p.fresh ≡ true) ↔ (¬ IsBelow (state_of p.delta) (joined_history p.history))
@@ -66,13 +66,13 @@ IsDeltaOf r s (Edit e) d = delta_of_edit r s e ≡ Ok d
 IsDeltaOf r s (Delta a) d = d ≡ a
 IsDeltaOf r s (Merge a) d = IsMergedAs s a d
 
--- the change is refused by e over the state s, for another cause than memory
+-- over the state s the change is refused with e, for another reason than memory
 abbrev pub IsRefusedBy : ℕ → State → Change → Refusal → Type 0
 IsRefusedBy r s (Edit edit) e = delta_of_edit r s edit ≡ Err e
 IsRefusedBy r s (Delta a) e = ⊥
 IsRefusedBy r s (Merge a) e = ⊥
 
--- the change would be appended
+-- over the state s, the change has a delta to append
 abbrev pub IsToAppend : ℕ → State → Change → Type 0
 IsToAppend r s (Edit e) = IsOk (delta_of_edit r s e)
 IsToAppend r s (Delta a) = ¬ IsBelow (state_of a) s

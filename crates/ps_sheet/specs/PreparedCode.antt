@@ -1,4 +1,4 @@
--- A code of what contracts see of a prepared change. Nothing but the view of `Prepared` uses it.
+-- A code of what contracts see of a prepared change. Only the view of `Prepared` uses it.
 use Rattle.std.specs.Prelude.{ℕ, Bool, List, refl}
 use Rattle.std.specs.Coded.{Coded, code_by, coded×, coded_ℕ, coded_list, coded_bool}
 use Rattle.ps_value.specs.declared.value.Value.{Value}

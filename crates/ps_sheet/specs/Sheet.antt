@@ -21,29 +21,30 @@ IsFresh history =
     (k : ℕ) → k < length history
     → ¬ IsBelow (state_of (slice_index_or history k [])) (joined_history (take k history))
 
--- what is true of each sheet: what it shows is settled for the joined history, and its history has no delta in vain
+-- what holds of each sheet: what it shows is settled for the joined history, and no delta of the history is below the
+-- join of those before it
 pub record IsSheet (x : SheetView) : Type 0 where
   pub settled : IsSettled (joined_history x.history) (shown_at x.shown)
   pub fresh : IsFresh x.history
   pub in_grid : IsInGrid (joined_history x.history)
   pub replica : (1 ≤ x.replica) × (x.replica ≤ REPLICAS)
 
--- ACCEPTED: the delta d is appended to the history h, unless it is below the join of h
+-- ACCEPTED: the history k is h with the delta d appended, or h itself if d is below the join of h
 abbrev pub Takes : Entries → List Entries → List Entries → Type 0
 Takes d h k =
     (IsBelow (state_of d) (joined_history h) × (k ≡ h))
     ⊎ ((¬ IsBelow (state_of d) (joined_history h)) × (k ≡ h ++ d ∷ []))
 
--- a run of accepted deltas, one after the other, from the history h to the history k
+-- the deltas of a list, accepted one after another, lead from the history h to the history k
 abbrev pub Accepts : List Entries → List Entries → List Entries → Type 0
 Accepts h [] k = k ≡ h
 Accepts h (d ∷ ds) k = (m : List Entries) × Takes d h m × Accepts m ds k
 
--- LAW: a run of accepted deltas joins to the joined history, whether each was appended or was below the state
+-- LAW: a history to which deltas were accepted joins to the same state as if all of them had been appended
 abbrev pub AcceptedDeltasJoin : Type 0
 AcceptedDeltasJoin = (ds h k : List Entries) → Accepts h ds k → joined_history k ≡ joined_history (h ++ ds)
 
--- two histories come from the empty one by accepting the same deltas, in whatever order and however often
+-- both histories come from the empty one by accepting the same deltas, in whatever order and however often
 abbrev pub TookTheSame : List Entries → List Entries → Type 0
 TookTheSame h k =
     (ds : List Entries) × (es : List Entries) × ((d : Entries) → Contains ds d ↔ Contains es d)

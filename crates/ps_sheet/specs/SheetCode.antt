@@ -1,4 +1,4 @@
--- A code of what contracts see of a sheet. Nothing but the view of `Sheet` uses it.
+-- A code of what contracts see of a sheet. Only the view of `Sheet` uses it.
 use Rattle.std.specs.Prelude.{ℕ, List, refl}
 use Rattle.std.specs.Coded.{Coded, code_by, coded×, coded_ℕ, coded_list}
 use Rattle.ps_shown.specs.declared.kept.Kept.{Kept}

@@ -11,8 +11,9 @@ use Rattle.ps_sheet.specs.Reports.{IsReport}
 use Rattle.ps_sheet.specs.Sheet.{SheetView, IsSheet, Takes}
 use Rattle.ps_sheet.specs.declared.sheet.Report.{Report}
 
--- the change's delta, whether it is to be appended, what some cells showed before it, the cells that were listed as
--- showing another value, the cells whose values were listed, with these, and the report
+-- `fresh` says whether the delta is to be appended. `olds` lists the cells whose shown value was written, with what
+-- they showed before. `changed` are the cells that were listed as showing another value, and `changes` those that were
+-- listed with the new value.
 pub record StagedView : Type 0 where
   pub delta : Entries
   pub fresh : Bool
@@ -29,14 +30,15 @@ pub record StagingView : Type 0 where
   pub workers : ℕ
   pub staged : Option StagedView
 
--- the sheet, where nothing is staged
+-- the sheet with what x shows; if nothing is staged in x, it is x as a sheet
 abbrev pub sheet_of : StagingView → SheetView
 sheet_of x = record { replica = x.replica; history = x.history; shown = x.shown; workers = x.workers }
 
+-- the sheet x, with nothing staged in it
 abbrev pub staging_of : SheetView → StagingView
 staging_of x = record { replica = x.replica; history = x.history; shown = x.shown; workers = x.workers; staged = None }
 
--- the prepared change, where p is staged
+-- the staged change p of x, as a prepared change
 abbrev pub prepared_of : StagingView → StagedView → PreparedView
 prepared_of x p = record {
   replica = x.replica;
@@ -50,7 +52,7 @@ prepared_of x p = record {
   workers = x.workers;
 }
 
--- what is true of each change that is staged, whether its values were listed or not
+-- what holds of each staged change, whether its values were listed or not
 pub record IsWorkedOut (p : PreparedView) : Type 0 where
   pub takes : Takes p.delta p.history (history_after p)
   pub fresh : (p.fresh ≡ true) ↔ (¬ IsBelow (state_of p.delta) (joined_history p.history))
@@ -60,7 +62,7 @@ pub record IsWorkedOut (p : PreparedView) : Type 0 where
   pub report : IsReport (joined_history p.history) (joined_history (history_after p)) (shown_before p) (shown_after p)
       p.report
 
--- what is true of each sheet, whether a change is staged in it or not
+-- what holds of a sheet in which this change, or none, is staged
 abbrev pub IsStagedAs : StagingView → Option StagedView → Type 0
 IsStagedAs x None = IsSheet (sheet_of x)
 IsStagedAs x (Some p) = IsWorkedOut (prepared_of x p)
@@ -68,7 +70,7 @@ IsStagedAs x (Some p) = IsWorkedOut (prepared_of x p)
 abbrev pub IsStaging : StagingView → Type 0
 IsStaging x = IsStagedAs x x.staged
 
--- STAGES: of the sheet x a change with the report r is staged in y, worked out over what x has and shows
+-- STAGES: y is x with a change staged that has the report r; it was worked out over the history and the values of x
 pub record Stages (x y : StagingView) (r : Report) : Type 0 where
   pub replica : y.replica ≡ x.replica
   pub history : y.history ≡ x.history
@@ -77,21 +79,21 @@ pub record Stages (x y : StagingView) (r : Report) : Type 0 where
   pub before : IsSomeAnd y.staged (λ p. shown_before (prepared_of y p) ≡ shown_at x.shown)
   pub report : IsSomeAnd y.staged (λ p. p.report ≡ r)
 
--- IDLE: the sheet y is the sheet x, and the report r tells of no work
+-- IDLE: the sheet y is the sheet x, and the report r has no work
 pub record IsIdle (x y : SheetView) (r : Report) : Type 0 where
   pub same : y ≡ x
   pub evaluated : r.evaluated ≡ 0
   pub cyclic : r.cyclic ≡ 0
   pub levels : r.levels ≡ 0
 
--- the same change is staged, whichever cells were listed
+-- the staged changes p and q are the same, apart from what was listed
 pub record IsSameChange (p q : StagedView) : Type 0 where
   pub delta : q.delta ≡ p.delta
   pub fresh : q.fresh ≡ p.fresh
   pub olds : q.olds ≡ p.olds
   pub report : q.report ≡ p.report
 
--- LISTED: in the sheets x and y the same change is staged, whichever cells were listed
+-- LISTED: x and y are the same with the same change staged, apart from what was listed
 pub record IsListed (x y : StagingView) : Type 0 where
   pub replica : y.replica ≡ x.replica
   pub history : y.history ≡ x.history

@@ -1,4 +1,4 @@
--- A code of what contracts see of a sheet with a staged change. Nothing but the view of `Staging` uses it.
+-- A code of what contracts see of a sheet with a staged change. Only the view of `Staging` uses it.
 use Rattle.std.specs.Prelude.{ℕ, Bool, Option, List, refl}
 use Rattle.std.specs.Coded.{Coded, code_by, coded×, coded_ℕ, coded_list, coded_bool, coded_option}
 use Rattle.ps_value.specs.declared.value.Value.{Value}

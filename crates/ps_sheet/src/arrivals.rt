@@ -15,10 +15,10 @@ use ps_lattice::Join;
 use std::alloc::Global;
 use std::marker::Model;
 
-/// Deltas that follow the history of a sheet. Each adds something to the join of the history and of those before it.
+/// A list of deltas to append to the history of a sheet, by [`Sheet::receive_all`].
 ///
-/// They are joined as they come. Nothing is evaluated until the sheet accepts all of them, by [`Sheet::receive_all`]. A
-/// contract sees them as their `ArrivalsView`.
+/// Each delta adds something new to the join of the history and of the deltas before it. Each is joined when it is
+/// added to the list, and nothing is evaluated before `receive_all`. A contract sees the list as its `ArrivalsView`.
 #[derive(Drop)]
 pub struct Arrivals {
     /// the deltas, in the order in which they came
@@ -40,11 +40,12 @@ impl Model for Arrivals {
 }
 
 impl Arrivals {
-    /// Creates an empty list of arrivals, after the history of a sheet.
+    /// Creates an empty list, for deltas that come after the history of `sheet`.
     ///
     /// Fails only when out of memory.
     ///
-    /// Cost: the blocks of the grid, and the 64 cells of each block in which the sheet ever changed a cell.
+    /// Cost: linear in the blocks of 64 cells that the grid has, and in the cells of those blocks in which the sheet
+    /// ever changed a cell.
     pub fn after(alloc: Global, sheet: &Sheet) -> Result<Arrivals, Refusal>
         ensures none { IfOk result (λ a. a.deltas ≡ []) }
         ensures follow { IfOk result (Follow sheet.now.history) }
@@ -61,12 +62,13 @@ impl Arrivals {
         })
     }
 
-    /// Adds a delta after those before it, and returns true. A delta below their join isn't added, and the result is
-    /// false.
+    /// Adds a delta at the end of the list, and returns true.
+    ///
+    /// Returns false, and adds nothing, if the delta adds nothing new to the join of the history and of the list.
     ///
     /// Fails only when out of memory, and then the list is as before.
     ///
-    /// Cost: as of [`Grid::join`].
+    /// Cost: that of [`Grid::join`].
     pub fn receive(&mut self, alloc: Global, delta: Delta) -> Result<bool, Refusal>
         ensures taken { IfOk result (λ is. (h : List Entries) → Follow h self.old
             → IsTakenIn h self.old self.new delta is) }
@@ -83,19 +85,18 @@ impl Arrivals {
         Ok(true)
     }
 
-    /// Returns whether there are none.
+    /// Returns whether the list has no delta.
     pub fn is_empty(&self) -> bool
         ensures { (result ≡ true) ↔ (self.now.deltas ≡ []) }
     {
         self.deltas.is_empty()
     }
 
-    /// Makes the delta of an edit at a replica, over the join of the history and of the arrivals, and adds it after
-    /// them.
+    /// Makes the delta of an edit at a replica, over the join of the history and of the list, and adds it to the list.
     ///
-    /// Fails as [`Sheet::edit`] does, over that join, and when out of memory. Then the list is as before.
+    /// Fails as [`Sheet::edit`] would once the sheet had accepted the list. The list is then as before.
     ///
-    /// Cost: that of the delta, and as of [`Grid::join`].
+    /// Cost: that of the delta, and of [`Grid::join`].
     pub fn edit(&mut self, alloc: Global, replica: u8, edit: Edit) -> Result<(), Refusal>
         requires replica { (1 ≤ replica) × (replica ≤ REPLICAS) }
         ensures made { OnOk result ((h : List Entries) → Follow h self.old

@@ -1,4 +1,4 @@
-//! Whether a cell can get another content.
+//! Whether anything more can be assigned to a cell.
 
 ghost use Rattle.std.specs.Prelude.{◌≡◌};
 ghost use Rattle.ps_sheet.specs.Edits.{is_clock_full};
@@ -6,7 +6,7 @@ ghost use Rattle.ps_sheet.specs.Edits.{is_clock_full};
 use ps_delta::CellState;
 use ps_lattice::LAST_TIME;
 
-/// Whether the register of a cell has the last time.
+/// Whether the time of a cell's register is `LAST_TIME`, so that nothing more can be assigned.
 pub(crate) fn is_clock_full(state: &CellState) -> bool
     ensures { result ≡ is_clock_full state.now }
 {

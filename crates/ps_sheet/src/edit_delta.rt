@@ -1,4 +1,4 @@
-//! The delta of an edit.
+//! What an edit of a cell, or of several, adds to a state: its delta.
 
 ghost use Rattle.std.specs.Prelude.{◌≡◌, ◌≤◌, Ok, Err, if◌then◌else◌, nat_le};
 ghost use Rattle.std.specs.List.{list_any};
@@ -20,7 +20,7 @@ use ps_grid::{Cell, REPLICAS, Refusal};
 use ps_lattice::{AMOUNT_LIMIT, Choice, OPTIONS, Register, Tally};
 use std::alloc::Global;
 
-/// The delta of an edit at the replica over the grid, or the first refusal that holds.
+/// Returns the delta that an edit at a replica makes over a grid, or the first refusal that holds.
 #[inline(always)]
 pub(crate) fn delta_of(
     alloc: Global,
@@ -55,7 +55,7 @@ pub(crate) fn delta_of(
 }
 
 /// The delta of putting an option into the set of a cell.
-// Not inlined, and neither are `unchosen` and `all_assigned`: so more common edits don't clear the room that these
+// Not inlined, nor are `unchosen` and `all_assigned`: more common edits then don't clear the stack space that these
 // need.
 #[inline(never)]
 fn chosen(
@@ -92,7 +92,7 @@ fn unchosen(
     Ok(Delta::of_filled(cell, with_choice(alloc, choice)))
 }
 
-/// The delta of giving cells their contents. All clocks are checked before anything is allocated.
+/// The delta of assigning contents to cells. The times of all their registers are checked before anything is allocated.
 #[inline(never)]
 fn all_assigned(
     alloc: Global,
@@ -118,7 +118,7 @@ fn all_assigned(
     }
 }
 
-/// Whether the register of one of the cells has the last time.
+/// Whether the time of the register of any of the cells is `LAST_TIME`.
 fn is_any_full(grid: &Grid, cells: &[(Cell, Content)]) -> bool
     ensures { result ≡ list_any (λ e. is_clock_full (state_at grid.now e.0)) cells.now }
 {
@@ -155,7 +155,7 @@ fn check_choice(state: &CellState, option: u64) -> Result<(), Refusal>
     }
 }
 
-/// A cell with nothing but a register.
+/// The state of a cell that has only a register.
 #[inline(always)]
 fn with_register(alloc: Global, register: Register<Content>) -> CellState
     ensures { result ≡ registered register }
@@ -167,7 +167,7 @@ fn with_register(alloc: Global, register: Register<Content>) -> CellState
     }
 }
 
-/// A cell with nothing but counts.
+/// The state of a cell that has only the counts of a counter.
 fn with_tally(alloc: Global, tally: Tally) -> CellState
     ensures { result ≡ counted tally }
 {
@@ -178,7 +178,7 @@ fn with_tally(alloc: Global, tally: Tally) -> CellState
     }
 }
 
-/// A cell with nothing but pairs.
+/// The state of a cell that has only the pairs of a set, each an option and the tag of its choice.
 fn with_choice(alloc: Global, choice: Choice) -> CellState
     ensures { result ≡ paired choice }
 {

@@ -25,18 +25,19 @@ pub fn cells_outside_show_the_same()
     ensures { OutsideShowsTheSame }
 {}
 
-/// States when a formula cell of that region shows the same in both states. It reaches no cycle, the states don't
-/// differ there, and it refers to no cell that shows another value.
+/// States when a formula cell shows the same in two states, though it is in the region of the cells where they differ.
+/// It reaches no cycle, the states don't differ at this cell, and it refers to no cell that shows another value.
 pub fn quiet_cells_show_the_same()
     ensures { QuietShowsTheSame }
 {}
 
-/// States that a delta that an edit makes over a state is not below it: an accepted edit always changes the state.
+/// States that the delta that an edit makes over a state isn't below that state: an accepted edit always changes it.
 pub fn edits_are_fresh()
     ensures { EditsAreFresh }
 {}
 
-/// States that a run of accepted deltas joins to the joined history, whether each was appended or was below the state.
+/// States that a history to which deltas were accepted joins to the same state as if all of them had been appended,
+/// also those that weren't, since they add nothing new.
 pub fn accepted_deltas_join()
     ensures { AcceptedDeltasJoin }
 {}
@@ -49,8 +50,7 @@ pub fn same_deltas_show_the_same(a: &Sheet, b: &Sheet)
     same_join_shows_the_same(a, b)
 }
 
-/// States that two sheets whose histories have the same join show the same values, whatever their replicas and
-/// histories.
+/// States that two sheets whose histories have the same join show the same values, also if their replicas differ.
 pub fn same_join_shows_the_same(a: &Sheet, b: &Sheet)
     requires { joined_history a.now.history ≡ joined_history b.now.history }
     ensures { shown_at a.now.shown ≡ shown_at b.now.shown }

@@ -4,61 +4,64 @@
 //! shows the settled value of each cell: `#CYCLE!` exactly if a chain of references from the cell holds a cell twice,
 //! and else the value of what the cell holds.
 //!
-//! It is the only crate that makes deltas of edits. The crate below, `ps_cells`, works out which formulas a change
+//! It is the only crate that makes deltas of edits. It depends on `ps_cells`, which works out which formulas a change
 //! evaluates. A sheet knows no bytes, no lines and no other sheet, and it sends nothing.
 //!
-//! Workers share the formulas of a level, since none of these refers to another: one worker for each 4,096 formulas, up
-//! to the number that the sheet was opened with. What the sheet shows, refuses and reports is the same for every number
-//! of workers. A call that changes a sheet takes the handle that starts threads. All threads that it started have ended
-//! when it returns.
+//! A delta touches a cell if it changes the cell's state. The region of a change is the touched cells and all cells
+//! that refer to them, directly or through others. Its formulas are evaluated level by level: the formulas of a level
+//! don't refer to one another, and come after those that they refer to.
+//!
+//! Workers share the formulas of a level: one worker for each 4,096 formulas, up to the number that the sheet was
+//! opened with. What the sheet shows, refuses and reports is the same for every number of workers. A call that changes
+//! a sheet takes `rt`, the handle that starts threads. All threads that a call starts have ended when it returns.
 //!
 //! Use the contracts of [`Sheet::edit`], [`Sheet::receive`] and [`Sheet::merge`]:
 //!
-//! - An edit appends exactly the delta that `delta_of_edit` gives over the joined history, or returns the first refusal
-//!   that holds.
-//! - A received delta is appended, unless it is below the joined history. Of a merged delta only what is new is
-//!   appended.
+//! - An edit appends exactly the delta that `delta_of_edit` gives over the joined history (the state that the accepted
+//!   deltas join to), or returns the first refusal that holds.
+//! - A received delta is appended, unless it adds nothing new to the joined history; contracts call it below that. A
+//!   merge appends only the part of a delta that is new.
 //! - After each, as after [`Sheet::open`], the sheet is an `IsSheet`: what it shows is settled for the joined history.
-//! - After a refusal everything is as before. Out of memory is returned only if a delta was to be appended.
+//! - After a refusal everything is as before. A call returns `Memory` only if it had a delta to append.
 //! - Settled values exist ([`settled_at_least_once`]), are the only ones ([`settled_at_most_once`]), and depend on the
 //!   set of deltas alone ([`same_deltas_show_the_same`]).
 //!
-//! [`Arrivals`] take many deltas at once, as a start over a durable file has them, or many edits, as a table has them:
+//! [`Arrivals`] collect many deltas, as a start reads from a file, or many edits, as a table has them:
 //!
 //! - [`Arrivals::receive`] joins a delta to those before it, and returns whether it adds something.
 //! - [`Arrivals::edit`] makes the delta of an edit.
 //! - [`Sheet::receive_all`] appends all of them and settles once, after the last.
 //!
 //! [`Sheet::prepare`] works a change out before it is made. A [`Prepared`] has the delta, the cells that will show
-//! another value, and the report. Neither call that ends it takes memory:
+//! another value, and the report. Two calls end it, and neither takes memory:
 //!
-//! - [`Prepared::commit`] leaves the sheet as after the edit or the receipt.
-//! - [`Prepared::cancel`] leaves it with its replica, its history and what it showed.
+//! - [`Prepared::commit`] returns the sheet with the change made.
+//! - [`Prepared::cancel`] returns the sheet with the history and the shown values from before.
 //!
 //! So a caller can first log or send the change, and give it up if that fails.
 //!
-//! A [`Staging`] does the same for one change after another, without giving the sheet away:
+//! A [`Staging`] owns a sheet, and does the same for one change after another:
 //!
 //! - [`Staging::stage`] works a change out in place.
 //! - [`Staging::list_changed`] lists the cells that show another value.
-//! - [`Staging::one_changed`] returns that cell without a list, if the change put one cell alone.
+//! - [`Staging::one_changed`] returns that cell without a list, if the change wrote only one cell's shown value.
 //! - [`Staging::commit`] or [`Staging::cancel`] ends the change.
 //!
-//! An edit and a receipt are a change that is staged and committed.
+//! [`Sheet::edit`], [`Sheet::receive`] and [`Sheet::merge`] stage a change and commit it.
 //!
 //! Say replica 1 gives A1 the number 5 and B1 the formula `=[.A1]*2`: two edits, so `version` is 2 and B1 shows 10.
 //! Then a delta of replica 2 comes that gives A1 the number 7 at time 1, as replica 1 did. The greater replica wins: A1
-//! shows 7 and B1 shows 14. The same delta once more is below the state: `version` stays 3.
+//! shows 7 and B1 shows 14, and `version` is 3. The same delta adds nothing when it comes once more: `version` stays 3.
 //!
-//! A change evaluates the formulas that it can reach, if they reach no cycle, and are touched or refer to a cell whose
-//! value changed. The [`Report`] says how many, and the meter rises by as much. In the example the second replica's
-//! delta touches A1 and reaches B1: one evaluation, one level, no cyclic cell.
+//! A change evaluates those formulas of its region that reach no cycle, and are touched or refer to a cell whose value
+//! changed. The [`Report`] says how many, and the meter rises by as much. In the example the second replica's delta
+//! touches A1 and reaches B1: one evaluation, one level, no cyclic cell.
 //!
 //! Cost: a sheet stores its deltas, and for each cell of the grid what it shows and some numbers for recalculating. A
-//! change costs its delta and its region: the cells that it reaches, the references to them, and the evaluations, which
-//! the workers of a wide level share. If a cell of the region has a formula or showed `#CYCLE!`, it also looks once at
-//! each cell that shows `#CYCLE!`. Preparing a change also sorts the cells that changed, and taking it back costs the
-//! cells that were put. A look at a cell costs a constant.
+//! change costs its delta and its region: the region's cells, the references to them, and the evaluations, which the
+//! workers of a wide level share. If a cell of the region has a formula or showed `#CYCLE!`, the change also looks once
+//! at each cell that shows `#CYCLE!`. Preparing a change also sorts the cells that changed. Taking it back costs the
+//! cells whose shown value it wrote. Reading what a cell shows takes constant time.
 #![tactic(auto)]
 
 mod arrivals;

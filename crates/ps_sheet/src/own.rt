@@ -1,4 +1,4 @@
-//! Whether a state has everything that a replica made.
+//! Whether a state has everything in a delta that is marked with a given replica.
 
 ghost use Rattle.std.specs.Prelude.{◌≡◌, IsTrue, is_some, true};
 ghost use Rattle.std.specs.Option.{option_map_or};
@@ -21,10 +21,10 @@ use ps_content::Content;
 use ps_delta::{CellState, Delta, Grid};
 use ps_lattice::{Assignment, Count, Pair, Register};
 
-/// Whether a grid has everything in a delta that a replica made.
+/// Whether a grid has everything in a delta that is marked with this replica.
 ///
-/// Cost: for each cell of the delta its counts, each with a walk over those of the cell, and its pairs, each with a
-/// search among those of the cell.
+/// Cost: for each count in the delta, a pass over the counts that its cell has in the grid. For each pair in the delta
+/// (an option and the tag of its choice), a binary search among the pairs that its cell has in the grid.
 pub(crate) fn has_own(grid: &Grid, delta: &Delta, replica: u8) -> bool
     ensures { result ≡ has_own replica (state_at grid.now) delta.now }
 {
@@ -34,7 +34,7 @@ pub(crate) fn has_own(grid: &Grid, delta: &Delta, replica: u8) -> bool
         .all(|part| has_own_of_cell(grid.at(part.0), &part.1, replica))
 }
 
-/// Whether a cell has everything that a replica made in another state of it.
+/// Whether `state` has everything in `part`, a delta's state of the same cell, that is marked with this replica.
 fn has_own_of_cell(state: &CellState, part: &CellState, replica: u8) -> bool
     ensures { result ≡ has_own_of_cell replica state.now part.now }
 {
@@ -46,7 +46,7 @@ fn has_own_of_cell(state: &CellState, part: &CellState, replica: u8) -> bool
         && has_pairs(state.choice.parts(), choice.parts(), replica)
 }
 
-/// Whether a register has what a replica assigned to it, or something greater.
+/// Whether `register` has the assignment in `part`, or a greater one, if that assignment is marked with this replica.
 fn has_assignment(register: &Register<Content>, part: &Register<Content>, replica: u8) -> bool
     ensures { result ≡ option_map_or (has_assignment replica register.now) part.now true }
 {
@@ -59,7 +59,7 @@ fn has_assignment(register: &Register<Content>, part: &Register<Content>, replic
     }
 }
 
-/// Whether an assignment isn't greater than another one.
+/// Whether `made` isn't greater than `held`, by time, then replica, then content.
 fn is_at_most(made: &Assignment<&Content>, held: &Assignment<&Content>) -> bool
     ensures { result ≡ is_at_most (looked_at made.now) (looked_at held.now) }
 {
@@ -70,7 +70,7 @@ fn is_at_most(made: &Assignment<&Content>, held: &Assignment<&Content>) -> bool
         .is_le()
 }
 
-/// Whether `counts` has each count of the replica in `part`, or a greater one.
+/// Whether `counts` has, for each count of this replica in `part`, one that is no less.
 fn has_counts(counts: &[(u8, Count)], part: &[(u8, Count)], replica: u8) -> bool
     ensures { result ≡ list_all (has_count replica counts.now) part.now }
 {
@@ -78,7 +78,7 @@ fn has_counts(counts: &[(u8, Count)], part: &[(u8, Count)], replica: u8) -> bool
         .all(|made| made.0 != replica || is_counted(counts, made))
 }
 
-/// Whether one of `counts` is of the same replica as `made`, and not less.
+/// Whether one of `counts` has the same replica as `made`, and is no less in both totals.
 fn is_counted(counts: &[(u8, Count)], made: &(u8, Count)) -> bool
     ensures { result ≡ list_any (is_counted_in made.now) counts.now }
 {
@@ -87,7 +87,7 @@ fn is_counted(counts: &[(u8, Count)], made: &(u8, Count)) -> bool
     })
 }
 
-/// Whether `pairs` has each pair of `part` that the replica made.
+/// Whether `pairs` has each pair of `part` that is marked with this replica, removed or not.
 fn has_pairs(pairs: &[(Pair, bool)], part: &[(Pair, bool)], replica: u8) -> bool
     requires { IsTrue (map.is_sorted pair_cmp pairs.now) }
     ensures { result ≡ list_all (has_pair replica pairs.now) part.now }
@@ -95,7 +95,7 @@ fn has_pairs(pairs: &[(Pair, bool)], part: &[(Pair, bool)], replica: u8) -> bool
     part.iter().all(|made| made.0.replica != replica || is_paired(pairs, made.0))
 }
 
-/// Whether a pair is one of these.
+/// Whether `pair` is one of `pairs`, removed or not.
 fn is_paired(pairs: &[(Pair, bool)], pair: Pair) -> bool
     requires { IsTrue (map.is_sorted pair_cmp pairs.now) }
     ensures { result ≡ is_some (map.find pair_cmp pair pairs.now) }

@@ -1,4 +1,4 @@
-//! A change of a sheet that is worked out before it is made.
+//! A change of a sheet that is worked out, and then made or given up.
 
 ghost use Rattle.std.specs.Prelude.{◌≡◌, ◌+◌, ◌⊎◌, IsSomeAnd, IfOk, IfErr, OnErr};
 ghost use Rattle.ps_shown.specs.Shown.{shown_at};
@@ -22,11 +22,11 @@ use std::marker::Model;
 use std::sync::ledger::Ledger;
 use std::thread::Threads;
 
-/// A change of a sheet that is worked out, and not yet made. It owns the sheet, and is ended by [`Prepared::commit`] or
-/// [`Prepared::cancel`].
+/// A change of a sheet that is worked out, and not yet made. It owns the sheet until [`Prepared::commit`] or
+/// [`Prepared::cancel`] returns it.
 ///
-/// It is part of the public interface, for callers that want to see a change before it is made, and can give the sheet
-/// away meanwhile. The program doesn't use it: it edits, receives, and stages in place, by a `Staging`.
+/// It is part of the public interface, for callers that want to see a change before it is made, and can do without the
+/// sheet meanwhile. The program doesn't use it: it stages changes in place, by a [`Staging`].
 ///
 /// A contract sees it as its `PreparedView`.
 pub struct Prepared {
@@ -51,14 +51,15 @@ impl Model for Prepared {
 }
 
 impl Sheet {
-    /// Works out a change, after allocating all that it needs. A delta below the state changes nothing, and is prepared
-    /// as one that isn't fresh. The formulas are evaluated and counted here, whether the change is then made or given
-    /// up.
+    /// Works out a change without making it, and allocates all that making it needs.
     ///
-    /// Nothing in the program calls it: the program edits, receives, and stages in place. It is part of the public
-    /// interface, for callers that want to see a change before it is made.
+    /// If the change's delta adds nothing new to the state, the result isn't [`Prepared::fresh`], and making it changes
+    /// nothing. The formulas are evaluated and counted here, whether the change is then made or given up.
     ///
-    /// Fails as [`Sheet::edit`], [`Sheet::receive`] or [`Sheet::merge`] would, and then the sheet comes back as it was.
+    /// Nothing in the program calls it, as the program stages changes in place. It is part of the public interface, for
+    /// callers that want to see a change before it is made.
+    ///
+    /// Fails as [`Sheet::edit`], [`Sheet::receive`] or [`Sheet::merge`] would, and then returns the sheet as it was.
     ///
     /// Cost: that of [`Sheet::edit`], [`Sheet::receive`] or [`Sheet::merge`], and of sorting the cells that show
     /// another value.
@@ -85,10 +86,9 @@ impl Sheet {
         self.prepare_by(rt, &Open, alloc, change, meter)
     }
 
-    /// Works out a change as [`Sheet::prepare`] does, with a gate that each worker passes before each of its
-    /// evaluations.
+    /// Works out a change as [`Sheet::prepare`] does. Each worker calls `gate` before each of its evaluations.
     ///
-    /// It is part of the public interface, as [`Sheet::prepare`] is.
+    /// It is part of the public interface, as [`Sheet::prepare`] is. Nothing in the program calls it.
     ///
     /// Cost: that of [`Sheet::prepare`], and of the gate.
     pub fn prepare_by<R: Threads + Sync, G: Gate, L: Ledger>(
@@ -121,7 +121,7 @@ impl Sheet {
 }
 
 impl Prepared {
-    /// The staged change, with the cells that it makes show another value.
+    /// The staged change, after listing the cells that show another value and what they show.
     fn of(mut staging: Staging) -> Prepared
         requires staged { IsSomeAnd staging.staged (λ p. IsWorkedOut (prepared_of staging p)) }
         ensures of { IsSomeAnd staging.staged (λ p. Prepares (prepared_of staging p) result) }
@@ -132,7 +132,7 @@ impl Prepared {
         Prepared { staging }
     }
 
-    /// Returns the change's delta.
+    /// Returns the change's delta. Of a merge it is the news, the part that is new; if there is none, the whole delta.
     pub fn delta(&self) -> &Delta
         ensures delta { result.now ≡ self.now.delta }
         ensures prepared { IsPrepared self.now }
@@ -140,7 +140,8 @@ impl Prepared {
         self.staging.delta()
     }
 
-    /// Returns whether the delta isn't below the state, so that it is to be appended to the history.
+    /// Returns whether the delta adds something new to the state. Only then does [`Prepared::commit`] append it to the
+    /// history.
     pub fn fresh(&self) -> bool
         ensures fresh { result ≡ self.now.fresh }
         ensures prepared { IsPrepared self.now }
@@ -174,7 +175,8 @@ impl Prepared {
 
     /// Makes the change, and returns the sheet and the report. It takes no memory.
     ///
-    /// Cost: the touched cells with their references, and the cells that were put.
+    /// Cost: the touched cells (those whose state the delta changes) with the references in their formulas, and the
+    /// cells whose shown value was written.
     pub fn commit(self) -> (Sheet, Report)
         ensures of { IsOf result.0 self.replica (history_after self) (shown_after self) }
         ensures workers { result.0.workers ≡ self.workers }
@@ -187,9 +189,11 @@ impl Prepared {
         (Sheet { staging }, report)
     }
 
-    /// Gives up the change, and returns the sheet with its replica, its history and what it showed. It takes no memory.
+    /// Gives up the change, and returns the sheet with the history and the shown values from before. It takes no
+    /// memory.
     ///
-    /// Cost: the touched cells with their references, the cells that were put, and those that showed `#CYCLE!`.
+    /// Cost: the touched cells (those whose state the delta changes) with the references in their formulas, the cells
+    /// whose shown value was written, and those that showed `#CYCLE!`.
     pub fn cancel(self) -> Sheet
         ensures of { IsOf result self.replica self.history (shown_before self) }
         ensures workers { result.workers ≡ self.workers }

@@ -31,16 +31,18 @@ use std::marker::Model;
 use std::sync::ledger::Ledger;
 use std::thread::Threads;
 
-/// What an accepted change did: the length of the history after it, and the work that it was (`ps_cells::Work`).
+/// What an accepted change did: the length of the history after it, and how much was recalculated.
+///
+/// The region of a change is the cells that it touches, and all that refer to them, directly or through others.
 #[derive(Clone, Copy, Debug, PartialEq, Eq)]
 pub struct Report {
-    /// The length of the history.
+    /// The length of the history after the change.
     pub version: u64,
-    /// How many formulas were evaluated.
+    /// The number of formulas that were evaluated.
     pub evaluated: u64,
-    /// How many formula cells of the region of the change are cyclic.
+    /// The number of formula cells of the region that show `#CYCLE!` after the change.
     pub cyclic: u64,
-    /// How many levels the other formula cells of the region have.
+    /// The length of the longest chain of references among the other formula cells of the region, counted in cells.
     pub levels: u64,
 }
 
@@ -103,10 +105,14 @@ impl Sheet {
     ghost use Rattle.ps_sheet.specs.Edits.{delta_of_edit};
     ghost use Rattle.ps_sheet.specs.Sheet.{IsSheet, Takes};
 
-    /// Creates the empty sheet of a replica, 1 to 32. `workers`, 1 to `WORKERS`, is how many share the formulas of a
-    /// wide level.
+    /// Creates the empty sheet of a replica, 1 to 32.
     ///
-    /// Fails if the replica is out of range, or when out of memory.
+    /// At most `workers` threads, 1 to `WORKERS`, evaluate formulas at the same time.
+    ///
+    /// # Errors
+    ///
+    /// - `Replica` if the replica is out of range.
+    /// - `Memory` if allocation fails.
     ///
     /// Cost: linear in the cells of the grid.
     pub fn open(alloc: Global, replica: u8, workers: usize) -> Result<Sheet, Refusal>
@@ -131,13 +137,15 @@ impl Sheet {
     ///
     /// Returns the first of these that holds, and changes nothing:
     ///
-    /// - The amount or the option is out of range.
-    /// - The cell holds no counter or no set.
-    /// - The count is full, the sequences are used up, the option isn't in the set, or a register has the last time.
-    /// - Allocation fails.
+    /// - `Amount` or `OptionRange` if the amount or the option is out of range.
+    /// - `NotTally` or `NotChoice` if the cell doesn't hold the counter or the set that the edit changes.
+    /// - `TallyFull` if the replica's count would pass its limit, or `ChoiceFull` if it has used all its sequences.
+    /// - `NotChosen` if the option to take out isn't in the set.
+    /// - `ClockFull` if the register of a cell that the edit assigns to has the last time.
+    /// - `Memory` if allocation fails.
     ///
-    /// Cost: that of the delta and its join, and of the region: its cells, their references, and the evaluations that
-    /// the report counts, which the workers of a wide level share.
+    /// Cost: that of the delta and its join, and of the region: its cells, the references to them, and the evaluations
+    /// that the report counts. The region is the touched cells, and all that refer to them, directly or through others.
     // Inlined: the caller that reads a line has the edit at hand, and needs only the report's version.
     #[inline(always)]
     pub fn edit<R: Threads + Sync, L: Ledger>(
@@ -170,11 +178,11 @@ impl Sheet {
         self.change(rt, alloc, Change::Edit(edit), meter)
     }
 
-    /// Accepts a delta made elsewhere: appends it to the history, unless it is below the state already.
+    /// Accepts a delta made elsewhere: appends it to the history, unless it adds nothing new to the state.
     ///
-    /// Fails only if it would be appended, when out of memory, and then nothing is changed.
+    /// Fails only when out of memory, and only if the delta was to be appended. It then changes nothing.
     ///
-    /// Cost: that of joining the delta. If it is appended, also that of the region, as for an edit.
+    /// Cost: that of joining the delta. If it is appended, also that of the region, as for [`Sheet::edit`].
     pub fn receive<R: Threads + Sync, L: Ledger>(
         &mut self,
         rt: &R,
@@ -203,15 +211,15 @@ impl Sheet {
         self.change(rt, alloc, Change::Delta(delta), meter)
     }
 
-    /// Merges a delta made elsewhere: appends to the history only what is new in it.
+    /// Merges a delta made elsewhere: appends only its news to the history.
     ///
-    /// What is new is the least delta that does to the state what the whole delta would. If nothing is new, all stays,
-    /// and so does the version in the report.
+    /// The news is the least delta that does to the state what the whole delta would. If there is none, nothing
+    /// changes, and the report has the old version.
     ///
-    /// Fails only if something is new, when out of memory, and then nothing is changed.
+    /// Fails only when out of memory, and only if there is news. It then changes nothing.
     ///
-    /// Cost: for each cell of the delta its counts and pairs, each with a search among those that the cell has here. If
-    /// something is new, also that of joining it, and of the region as for an edit.
+    /// Cost: for each count and pair of the delta, a search among those of its cell in the sheet. If there is news,
+    /// also that of joining it, and of the region as for [`Sheet::edit`].
     pub fn merge<R: Threads + Sync, L: Ledger>(
         &mut self,
         rt: &R,
@@ -242,7 +250,7 @@ impl Sheet {
         self.change(rt, alloc, Change::Merge(delta), meter)
     }
 
-    /// Stages a change, and makes it.
+    /// Stages a change, and commits it.
     #[inline(always)]
     fn change<R: Threads + Sync, L: Ledger>(
         &mut self,
@@ -295,7 +303,7 @@ impl Sheet {
         self.staging.all_shown()
     }
 
-    /// Returns whether the cell's register has the last time, so that no edit can give the cell a content any more.
+    /// Returns whether the time of the cell's register is `LAST_TIME`: no edit can assign to the cell any more.
     pub fn is_clock_full(&self, cell: Cell) -> bool
         ensures full { result ≡ is_clock_full (joined_history self.now.history cell) }
         ensures sheet { IsSheet self.now }
@@ -303,7 +311,7 @@ impl Sheet {
         self.staging.is_clock_full(cell)
     }
 
-    /// Returns what the cell's register holds; none if nothing was assigned to it.
+    /// Returns what the cell's register holds, or `None` if nothing was ever assigned to it.
     pub fn content(&self, cell: Cell) -> Option<&Content>
         ensures held { option_copied result
             ≡ option_map (λ a. a.content) (joined_history self.now.history cell).register }
@@ -312,11 +320,13 @@ impl Sheet {
         self.staging.content(cell)
     }
 
-    /// Returns whether the state has everything in a delta that the sheet's own replica made. If it hasn't, the
-    /// replica's number is used elsewhere too, or changes of its own were lost. It takes no memory.
+    /// Returns whether the state has everything in `delta` that is marked with the sheet's own replica.
     ///
-    /// Cost: for each cell of the delta its counts, each with a walk over those that the cell has here. Also its pairs,
-    /// each with a search among those that the cell has here.
+    /// If it hasn't, another sheet uses the same replica number, or this one lost changes of its own. It takes no
+    /// memory.
+    ///
+    /// Cost: for each count in the delta, a pass over the counts that its cell has in the sheet. For each pair in the
+    /// delta (an option and the tag of its choice), a binary search among the pairs that its cell has in the sheet.
     pub fn has_own(&self, delta: &Delta) -> bool
         ensures own { result ≡ has_own self.now.replica (joined_history self.now.history) delta.now }
         ensures sheet { IsSheet self.now }
@@ -324,7 +334,7 @@ impl Sheet {
         self.staging.has_own(delta)
     }
 
-    /// Returns the accepted deltas that changed the state, in the order in which they came.
+    /// Returns the deltas that changed the state, the sheet's own and received ones, in the order of their acceptance.
     pub fn history(&self) -> &[Delta]
         ensures history { result.now ≡ self.now.history }
         ensures sheet { IsSheet self.now }
@@ -352,11 +362,11 @@ impl Sheet {
 impl Sheet {
     ghost use Rattle.ps_sheet.specs.Sheet.{IsSheet};
 
-    /// Appends deltas that follow the history, in their order, and settles what the cells show once, after the last.
+    /// Appends the deltas of `arrivals` to the history, in their order, and recalculates once, after the last.
     ///
     /// Fails only when out of memory, and then the sheet is as before.
     ///
-    /// Cost: as of [`ps_delta::Grid::entries`], and the region of all deltas as one change.
+    /// Cost: that of [`ps_delta::Grid::entries`], and the region of all deltas as one change.
     pub fn receive_all<R: Threads + Sync, L: Ledger>(
         &mut self,
         rt: &R,
@@ -382,7 +392,7 @@ impl Sheet {
         self.staging.receive_all(rt, alloc, arrivals, meter)
     }
 
-    /// Returns what each cell holds.
+    /// Returns the state of each cell.
     pub(crate) fn grid(&self) -> &Grid
         ensures state { state_at result.now ≡ joined_history self.now.history }
         ensures sheet { IsSheet self.now }

@@ -1,4 +1,4 @@
-//! A sheet in which at most one change is staged.
+//! A sheet in which at most one change is staged: worked out, and not yet made.
 
 ghost use Rattle.std.specs.Prelude.{◌≡◌, ◌+◌, ◌≤◌, ◌⊎◌, ◌↔◌, [], ◌∷◌, ◌++◌, true, false, is_some, length, map};
 ghost use Rattle.std.specs.Prelude.{None, IfOk, IfErr, IfSome, IsSomeAnd, IsTrue, OnOk, OnErr};
@@ -37,18 +37,18 @@ use std::marker::Model;
 use std::sync::ledger::Ledger;
 use std::thread::Threads;
 
-/// A sheet in which a change may be staged: worked out, and not yet made. The change is then committed or cancelled,
-/// and the next one may be staged.
+/// A sheet in which at most one change at a time is staged: worked out, and not yet made. After the change is committed
+/// or cancelled, the next one may be staged.
 ///
 /// A contract sees it as its `StagingView`.
 #[derive(Drop)]
 pub struct Staging {
     replica: u8,
-    /// the accepted deltas that changed the state, without that of the staged change, which has room after them
+    /// the accepted deltas that changed the state, without the staged delta; there is room for that one
     history: Vec<Delta>,
-    /// the cells that follow from them and from the staged change
+    /// the state and the shown values, with the staged change
     cells: Cells,
-    /// the staged change; if its delta is below the state, nothing is staged in the cells
+    /// the staged change; if its delta adds nothing new to the state, nothing is staged in `cells`
     staged: Option<Staged>,
 }
 
@@ -96,7 +96,7 @@ impl Staging {
         })
     }
 
-    /// Takes a sheet, so that changes may be staged in it.
+    /// Creates a `Staging` of a sheet, in which nothing is staged.
     pub fn new(sheet: Sheet) -> Staging
         ensures staging { result ≡ staging_of sheet }
         ensures sheet { IsSheet sheet }
@@ -107,7 +107,7 @@ impl Staging {
         staging
     }
 
-    /// Returns the sheet, while nothing is staged.
+    /// Returns the sheet; no change may be staged.
     pub fn into_sheet(self) -> Sheet
         requires none { self.staged ≡ None }
         ensures same { result ≡ sheet_of self }
@@ -118,11 +118,11 @@ impl Staging {
         Sheet { staging: self }
     }
 
-    /// Works out a change, after allocating all that it needs. A delta below the state changes nothing, and is staged
-    /// as one that isn't fresh.
+    /// Works out a change without making it, and allocates all that making it needs.
     ///
-    /// Each worker passes the gate before each of its evaluations. The formulas are evaluated and counted here, whether
-    /// the change is then committed or cancelled.
+    /// If the change's delta adds nothing new to the state, the staged change isn't [`Staging::fresh`], and committing
+    /// it changes nothing. Each worker calls `gate` before each of its evaluations. The formulas are evaluated and
+    /// counted here, whether the change is then committed or cancelled.
     ///
     /// Fails as [`Sheet::edit`], [`Sheet::receive`] or [`Sheet::merge`] would, and then nothing is staged.
     ///
@@ -163,7 +163,7 @@ impl Staging {
         }
     }
 
-    /// Stages a delta, whether it is below the state or not.
+    /// Stages a delta, whether it adds something new to the state or not.
     fn stage_delta<R: Threads + Sync, G: Gate, L: Ledger>(
         &mut self,
         rt: &R,
@@ -191,7 +191,7 @@ impl Staging {
         self.stage_fresh(rt, gate, alloc, delta, meter)
     }
 
-    /// Stages what is new in a delta. If nothing is, it stages the delta, which changes nothing.
+    /// Stages what is new in a delta. If nothing is new, it stages the whole delta, which changes nothing.
     fn stage_merge<R: Threads + Sync, G: Gate, L: Ledger>(
         &mut self,
         rt: &R,
@@ -221,7 +221,7 @@ impl Staging {
         }
     }
 
-    /// Stages a delta that isn't below the state.
+    /// Stages a delta that adds something new to the state.
     #[inline(always)]
     fn stage_fresh<R: Threads + Sync, G: Gate, L: Ledger>(
         &mut self,
@@ -248,7 +248,7 @@ impl Staging {
         Ok(report)
     }
 
-    /// Stages a delta below the state, which changes nothing.
+    /// Stages a delta that adds nothing new to the state, and so changes nothing.
     fn stage_idle(&mut self, delta: Delta) -> Report
         requires none { self.old.staged ≡ None }
         requires below { IsBelow (state_of delta) (joined_history self.old.history) }
@@ -272,7 +272,7 @@ impl Staging {
         delta_of(alloc, self.cells.grid(), self.replica, edit)
     }
 
-    /// Whether a delta is below the state.
+    /// Whether a delta adds nothing new to the state.
     fn covers(&self, delta: &Delta) -> bool
         requires none { self.now.staged ≡ None }
         ensures { IsTrue result ↔ IsBelow (state_of delta.now) (joined_history self.now.history) }
@@ -280,7 +280,7 @@ impl Staging {
         self.cells.grid().covers(delta)
     }
 
-    /// What is new in a delta; none if it is below the state.
+    /// The part of a delta that is new to the state, or `None` if nothing is.
     fn news(&self, alloc: Global, delta: &Delta) -> Result<Option<Delta>, Refusal>
         requires none { self.now.staged ≡ None }
         ensures news { IfOk result (λ o. IfSome o (IsNewsDelta (joined_history self.now.history) delta.now)) }
@@ -292,7 +292,7 @@ impl Staging {
         self.cells.grid().news(alloc, delta)
     }
 
-    /// Whether the cell's register has the last time.
+    /// Whether the time of the cell's register is `LAST_TIME`, so that nothing more can be assigned.
     pub(crate) fn is_clock_full(&self, cell: Cell) -> bool
         requires none { self.now.staged ≡ None }
         ensures full { result ≡ is_clock_full (joined_history self.now.history cell) }
@@ -301,7 +301,7 @@ impl Staging {
         contents::is_clock_full(self.cells.grid().at(cell))
     }
 
-    /// Returns what the cell's register holds, while nothing is staged; none if nothing was assigned to it.
+    /// Returns what the cell's register holds, or `None` if nothing was ever assigned to it. No change may be staged.
     pub fn content(&self, cell: Cell) -> Option<&Content>
         requires none { self.now.staged ≡ None }
         ensures held { option_copied result
@@ -311,11 +311,14 @@ impl Staging {
         content(self.cells.grid().at(cell))
     }
 
-    /// Returns whether the state has everything in a delta that the sheet's own replica made, while nothing is staged.
-    /// If it hasn't, the replica's number is used elsewhere too, or changes of its own were lost. It takes no memory.
+    /// Returns whether the state has everything in `delta` that is marked with the sheet's own replica. No change may
+    /// be staged.
     ///
-    /// Cost: for each cell of the delta its counts, each with a walk over those that the cell has here. Also its pairs,
-    /// each with a search among those that the cell has here.
+    /// If it hasn't, another sheet uses the same replica number, or this one lost changes of its own. It takes no
+    /// memory.
+    ///
+    /// Cost: for each count in the delta, a pass over the counts that its cell has in the sheet. For each pair in the
+    /// delta (an option and the tag of its choice), a binary search among the pairs that its cell has in the sheet.
     pub fn has_own(&self, delta: &Delta) -> bool
         requires none { self.now.staged ≡ None }
         ensures own { result ≡ has_own self.now.replica (joined_history self.now.history) delta.now }
@@ -326,7 +329,8 @@ impl Staging {
 
     /// Makes the staged change, and returns its report. It takes no memory.
     ///
-    /// Cost: the touched cells with their references, and the cells that were put.
+    /// Cost: the touched cells (those whose state the delta changes) with the references in their formulas, and the
+    /// cells whose shown value was written.
     pub fn commit(&mut self) -> Report
         requires staged { is_some self.old.staged ≡ true }
         ensures of { IsSomeAnd self.old.staged (λ p. IsOf (sheet_of self.new) self.old.replica
@@ -345,7 +349,7 @@ impl Staging {
     /// Makes the staged change, as [`Staging::commit`] does, for callers that need no report or have read it. It takes
     /// no memory.
     ///
-    /// Cost: the touched cells with their references, and the cells that were put.
+    /// Cost: that of [`Staging::commit`].
     #[inline(always)]
     pub fn make(&mut self)
         requires staged { is_some self.old.staged ≡ true }
@@ -366,9 +370,10 @@ impl Staging {
         }
     }
 
-    /// Gives up the staged change: the sheet has its replica, its history and what it showed. It takes no memory.
+    /// Gives up the staged change: the sheet has the history and the shown values from before. It takes no memory.
     ///
-    /// Cost: the touched cells with their references, the cells that were put, and those that showed `#CYCLE!`.
+    /// Cost: the touched cells (those whose state the delta changes) with the references in their formulas, the cells
+    /// whose shown value was written, and those that showed `#CYCLE!`.
     pub fn cancel(&mut self)
         requires staged { is_some self.old.staged ≡ true }
         ensures of { IsSomeAnd self.old.staged (λ p. IsOf (sheet_of self.new) self.old.replica self.old.history
@@ -383,9 +388,9 @@ impl Staging {
         }
     }
 
-    /// Lists the cells whose shown value the staged change alters, for [`Staging::changed`].
+    /// Lists the cells whose shown value the staged change alters; [`Staging::changed`] then returns them.
     ///
-    /// Cost: that of sorting them, and the cells that were put.
+    /// Cost: that of sorting them, and the cells whose shown value was written.
     pub fn list_changed(&mut self)
         requires staged { is_some self.old.staged ≡ true }
         ensures changed { IsSomeAnd self.new.staged (λ p.
@@ -395,9 +400,10 @@ impl Staging {
         self.cells.list_changed();
     }
 
-    /// Returns the cell whose shown value the staged change alters, if the change put no other cell.
+    /// Returns the cell whose shown value the staged change alters, if the change wrote no other cell's shown value.
     ///
-    /// None means that no cell shows another value or that several were put: [`Staging::list_changed`] lists them then.
+    /// `None` means that no cell shows another value, or that the change wrote several shown values. Then call
+    /// [`Staging::list_changed`].
     #[inline(always)]
     pub fn one_changed(&self) -> Option<Cell>
         requires staged { is_some self.now.staged ≡ true }
@@ -407,7 +413,7 @@ impl Staging {
         self.cells.one_changed()
     }
 
-    /// Lists what the listed cells show, for [`Staging::changes`].
+    /// Lists what the cells show that [`Staging::list_changed`] listed; [`Staging::changes`] then returns them.
     pub(crate) fn list_values(&mut self)
         requires staged { is_some self.old.staged ≡ true }
         ensures values { IsSomeAnd self.new.staged
@@ -418,7 +424,8 @@ impl Staging {
         self.cells.list_values();
     }
 
-    /// Returns the delta of the staged change.
+    /// Returns the delta of the staged change. Of a merge it is the news, the part that is new; if there is none, the
+    /// whole delta.
     pub fn delta(&self) -> &Delta
         requires staged { is_some self.now.staged ≡ true }
         ensures delta { IsSomeAnd self.now.staged (λ p. result.now ≡ p.delta) }
@@ -442,8 +449,8 @@ impl Staging {
         staged.report
     }
 
-    /// Returns whether the delta of the staged change isn't below the state, so that it is to be appended to the
-    /// history.
+    /// Returns whether the delta of the staged change adds something new to the state. Only then does committing append
+    /// it to the history.
     pub fn fresh(&self) -> bool
         requires staged { is_some self.now.staged ≡ true }
         ensures fresh { IsSomeAnd self.now.staged (λ p. result ≡ p.fresh) }
@@ -452,7 +459,7 @@ impl Staging {
         self.cells.is_staged()
     }
 
-    /// Returns the cells that [`Staging::list_changed`] listed, ascending.
+    /// Returns the cells that [`Staging::list_changed`] listed for this change, in the order of the grid, row by row.
     pub fn changed(&self) -> &[Cell]
         requires staged { is_some self.now.staged ≡ true }
         ensures changed { IsSomeAnd self.now.staged (λ p. result.now ≡ p.changed) }
@@ -461,7 +468,7 @@ impl Staging {
         self.cells.changed()
     }
 
-    /// The cells whose values were listed, with these.
+    /// Returns the cells that [`Staging::list_values`] listed, each with what it shows.
     pub(crate) fn changes(&self) -> &[(Cell, Value)]
         requires staged { is_some self.now.staged ≡ true }
         ensures changes { IsSomeAnd self.now.staged (λ p. result.now ≡ p.changes) }
@@ -469,7 +476,7 @@ impl Staging {
         self.cells.changes()
     }
 
-    /// Returns what each cell shows, with the staged change.
+    /// Returns what each cell shows; if a change is staged, what it shows after that change.
     pub fn all_shown(&self) -> &Shown
         ensures shown { shown_at result.now ≡ shown_at self.now.shown }
         ensures staging { IsStaging self.now }
@@ -477,8 +484,8 @@ impl Staging {
         self.cells.shown()
     }
 
-    /// Returns the accepted deltas that changed the state, in the order in which they came, without that of the staged
-    /// change.
+    /// Returns the deltas that changed the state, the sheet's own and received ones, in the order of their acceptance.
+    /// The staged delta isn't one of them.
     pub fn history(&self) -> &[Delta]
         ensures history { result.now ≡ self.now.history }
         ensures staging { IsStaging self.now }
@@ -486,7 +493,7 @@ impl Staging {
         &self.history
     }
 
-    /// Returns the length of the history.
+    /// Returns the length of the history, without the staged delta.
     pub fn version(&self) -> u64
         ensures version { result ≡ length self.now.history }
         ensures staging { IsStaging self.now }
@@ -504,7 +511,7 @@ impl Staging {
 }
 
 impl Staging {
-    /// Appends deltas that follow the history, and settles once, after the last.
+    /// Appends the deltas of `arrivals` to the history, and recalculates once, after the last.
     pub(crate) fn receive_all<R: Threads + Sync, L: Ledger>(
         &mut self,
         rt: &R,
@@ -543,7 +550,7 @@ impl Staging {
         Ok(Report::of(self.history.len() as u64, work))
     }
 
-    /// Returns what each cell holds, where nothing is staged.
+    /// Returns the state of each cell; no change may be staged.
     pub(crate) fn grid(&self) -> &Grid
         requires none { self.now.staged ≡ None }
         ensures state { state_at result.now ≡ joined_history self.now.history }
@@ -553,7 +560,7 @@ impl Staging {
     }
 }
 
-/// Makes room for later deltas, unless the history is empty: then their list takes its place.
+/// Makes room in the history for later deltas. An empty history needs none: `put_after` replaces it by their list.
 fn make_room(history: &mut Vec<Delta>, deltas: &[Delta]) -> Result<(), Refusal>
     ensures same { history.new.items ≡ history.old.items }
     ensures room { OnOk result (HasRoomAfter history.new (length deltas.now)) }
@@ -566,7 +573,7 @@ fn make_room(history: &mut Vec<Delta>, deltas: &[Delta]) -> Result<(), Refusal>
     Ok(())
 }
 
-/// Puts later deltas after a history. If the history is empty, their list takes its place, and none is moved.
+/// Appends later deltas to the history. If the history is empty, their list replaces it, and no delta is moved.
 fn put_after(history: &mut Vec<Delta>, mut deltas: Vec<Delta>)
     requires room { HasRoomAfter history.old (length deltas.items) }
     ensures { history.new.items ≡ history.old.items ++ deltas.items }

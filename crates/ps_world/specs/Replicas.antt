@@ -33,14 +33,14 @@ has_taken replicas r k = option_map_or (λ x. contains nat_cmp x.taken k) (repli
 abbrev pub world_of : WorldView → WorldState
 world_of w = record { deltas = w.deltas; took = has_taken w.replicas }
 
--- a sheet of replica r: its history joins to the deltas that r took, and all of these exist
+-- the sheet x of replica r: its history joins to the state that the deltas that r took join to, and all of these exist
 pub record IsReplica (w : WorldState) (r : ℕ) (x : ReplicaView) : Type 0 where
   pub sheet : IsSheet x.sheet
   pub own : x.sheet.replica ≡ r
   pub joined : joined_history x.sheet.history ≡ joined_of w r
   pub known : (k : ℕ) → w.took r k ≡ true → k ≤ length w.deltas
 
--- so is each replica of the world
+-- each replica of the world is an `IsReplica`
 abbrev pub IsWorld : WorldView → Type 0
 IsWorld w = (r : ℕ) (x : ReplicaView) → replica_at w.replicas r ≡ Some x → IsReplica (world_of w) r x
 

@@ -1,4 +1,4 @@
--- THE WORLD that a list of events makes of some replicas, whatever program plays it.
+-- THE WORLD that a list of events makes of some replicas, whichever program plays them.
 use Rattle.std.specs.Prelude.{ℕ, ◌+◌, Bool, false, ◌&&◌, ◌||◌, ◌==◌, nat_le, if◌then◌else◌}
 use Rattle.std.specs.Prelude.{List, [], ◌∷◌, ◌++◌, length, map, filter, fold, Result, Ok, Err}
 use Rattle.std.specs.List.{enumerate_from}
@@ -30,7 +30,7 @@ picked numbers n deltas = map (λ e. e.1) (filter (λ e. numbers e.0) (enumerate
 abbrev pub deltas_of : WorldState → ℕ → List Entries
 deltas_of w r = picked (w.took r) 1 w.deltas
 
--- their join
+-- the join of the deltas that replica r took
 abbrev pub joined_of : WorldState → ℕ → State
 joined_of w r = joined_history (deltas_of w r)
 

@@ -13,7 +13,7 @@ replica_code =
     code_by (SheetView × List ℕ) (coded× sheet_code (coded_list coded_ℕ))
     (λ x. (x.sheet, x.taken.keys)) (λ p. record { sheet = p.0; taken = record { keys = p.1 } }) (λ _. refl)
 
--- and so is a world
+-- a world is stored as the pair of its parts
 abbrev pub world_code : Coded WorldView
 world_code =
     code_by (List Entries × List ReplicaView)

@@ -1,14 +1,16 @@
-//! What happens in a world.
+//! The events of a world.
 
 use ps_delta::{Delta, Edit};
 
-/// One step of a world. Replicas and deltas are counted from 1, deltas in the order in which they were made or added.
+/// One step of a world. Replicas are numbered from 1, and so are deltas, in the order in which they were made or added.
 #[derive(Drop)]
 pub enum Event {
-    /// An edit at a replica. Its delta gets the next number and is taken there; a refused edit changes nothing.
+    /// An edit at the replica with this number. The replica makes its delta, which gets the next number, and takes it.
+    /// A refused edit changes nothing.
     Edit(u8, Edit),
-    /// The delta of an untrusted peer, whatever its stamps. It gets the next number, and no replica takes it yet.
+    /// A delta from an untrusted peer, which may claim any times and replicas. It gets the next number, and no replica
+    /// takes it yet.
     Foreign(Delta),
-    /// A replica receives the delta with a number, whenever and however often.
+    /// The replica with the first number receives the delta with the second number. It may have received it before.
     Deliver(u8, usize),
 }

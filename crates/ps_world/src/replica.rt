@@ -44,7 +44,7 @@ impl Replica {
     ghost use Rattle.ps_sheet.specs.Sheet.{IsSheet};
     ghost use Rattle.ps_world.specs.Inside.Steps.{IsNew};
 
-    /// A replica, 1 to 32, that took nothing yet.
+    /// Returns the replica with a number, 1 to 32, that took nothing yet. Fails only when out of memory.
     pub(crate) fn open(alloc: Global, replica: u8) -> Result<Replica, Refusal>
         requires { (1 ≤ replica) × (replica ≤ REPLICAS) }
         ensures new { IfOk result (IsNew replica) }
@@ -57,8 +57,8 @@ impl Replica {
         })
     }
 
-    /// Makes an edit here and takes its delta with this number. Returns the delta; none if the edit is refused, and
-    /// then nothing is changed. Fails only when out of memory.
+    /// Makes an edit at this replica, and takes its delta with the number `number`. Returns the delta. If the sheet
+    /// refuses the edit, returns `None` and changes nothing. Fails only when out of memory.
     pub(crate) fn make<R: Threads + Sync, L: Ledger>(
         &mut self,
         rt: &R,
@@ -89,7 +89,7 @@ impl Replica {
         Ok(Some(newest(alloc, &self.sheet)?))
     }
 
-    /// Receives a delta and takes it with its number. Fails only when out of memory.
+    /// Receives a delta, and notes its number as taken. Fails only when out of memory.
     pub(crate) fn take<R: Threads + Sync, L: Ledger>(
         &mut self,
         rt: &R,
@@ -125,7 +125,7 @@ impl Replica {
     }
 }
 
-/// The last delta of a history that has one.
+/// Returns the last delta of the sheet's history, which isn't empty. Fails only when out of memory.
 fn newest(alloc: Global, sheet: &Sheet) -> Result<Delta, Refusal>
     requires { 0 < length sheet.now.history }
     ensures newest { let h = sheet.now.history in IfOk result (λ d. slice_get h (length h - 1) ≡ Some d) }

@@ -19,7 +19,7 @@ use std::marker::Model;
 use std::sync::ledger::Ledger;
 use std::thread::Threads;
 
-/// Replicas of one sheet, and the deltas that they made or were sent by untrusted peers.
+/// Replicas of one sheet, and the deltas that these replicas made or untrusted peers sent.
 ///
 /// A contract sees it as its `WorldView`, and the world that a list of events makes as a `WorldState`.
 #[derive(Drop)]
@@ -50,7 +50,7 @@ impl World {
     ghost use Rattle.ps_world.specs.World.{empty_world};
     ghost use Rattle.ps_world.specs.Inside.Steps.{IsAfter};
 
-    /// Empty sheets of `replicas` replicas, and no deltas.
+    /// Returns the world with empty sheets of `replicas` replicas, and no deltas.
     fn open(alloc: Global, replicas: u8) -> Result<World, Refusal>
         ensures replicas { IfOk result (λ w. length w.replicas ≡ replicas) }
         ensures empty { IfOk result (λ w. world_of w ≡ empty_world) }
@@ -68,7 +68,7 @@ impl World {
         })
     }
 
-    /// The world after an event. Fails only when out of memory.
+    /// Returns the world after an event. Fails only when out of memory.
     fn after<R: Threads + Sync, L: Ledger>(
         self,
         rt: &R,
@@ -86,7 +86,7 @@ impl World {
         }
     }
 
-    /// Makes an edit at a replica.
+    /// Makes an edit at a replica. An unknown replica or a refused edit leaves the world as it is.
     fn edit<R: Threads + Sync, L: Ledger>(
         self,
         rt: &R,
@@ -129,7 +129,7 @@ impl World {
         Ok(World { deltas, replicas })
     }
 
-    /// Delivers a delta to a replica.
+    /// Delivers a delta to a replica. An unknown replica or delta leaves the world as it is.
     fn deliver<R: Threads + Sync, L: Ledger>(
         self,
         rt: &R,
@@ -157,9 +157,9 @@ impl World {
         Ok(World { deltas, replicas })
     }
 
-    /// Returns the sheet of a replica, counted from 1; none if there is no such replica.
+    /// Returns the sheet of a replica, counted from 1; `None` if there is no such replica.
     ///
-    /// Nothing in the program calls it: it is part of the public interface, as [`play`] is.
+    /// Nothing in the program calls it. It is part of the public interface, as [`play`] is.
     pub fn sheet(&self, replica: u8) -> Option<&Sheet>
         ensures sheet { option_copied result ≡ option_map (λ x. x.sheet) (replica_at self.now.replicas replica) }
         ensures world { IsWorld self.now }
@@ -167,9 +167,10 @@ impl World {
         Some(self.replica(replica)?.sheet())
     }
 
-    /// Returns the numbers of the deltas that a replica took, both counted from 1; none if there is no such replica.
+    /// Returns the numbers of the deltas that a replica took; `None` if there is no such replica. Replicas and deltas
+    /// are counted from 1.
     ///
-    /// Nothing in the program calls it: it is part of the public interface, as [`play`] is.
+    /// Nothing in the program calls it. It is part of the public interface, as [`play`] is.
     pub fn taken(&self, replica: u8) -> Option<&BTreeSet<usize>>
         ensures taken { option_copied result ≡ option_map (λ x. x.taken) (replica_at self.now.replicas replica) }
         ensures world { IsWorld self.now }
@@ -186,7 +187,7 @@ impl World {
     }
 }
 
-/// The place of a number in a list whose items are numbered from 1 on; none if the number is unknown.
+/// Returns the index of the item with a number in a list of `count` items, numbered from 1; `None` if there is none.
 fn place_of(number: usize, count: usize) -> Option<usize>
     ensures { SomeIff result ((1 ≤ number) × (number ≤ count)) (number - 1) }
 {
@@ -196,7 +197,7 @@ fn place_of(number: usize, count: usize) -> Option<usize>
     Some(number - 1)
 }
 
-/// The replica with a number in the list of all.
+/// Returns the replica with a number, counted from 1; `None` if there is none.
 fn numbered(replicas: &[Replica], replica: u8) -> Option<&Replica>
     ensures { option_copied result ≡ replica_at replicas.now replica }
 {
@@ -206,20 +207,26 @@ fn numbered(replicas: &[Replica], replica: u8) -> Option<&Replica>
     replicas.get(usize::from(replica) - 1)
 }
 
-/// Plays the events, one after another, on `replicas` empty sheets, 1 to 32, which are replicas 1, 2 and so on.
+/// Plays the events, one after another, on `replicas` empty sheets, 1 to 32, and returns the world that they make. The
+/// sheets are those of replicas 1, 2 and so on.
 ///
-/// This is the headline for whole runs, whatever the events are. The world has exactly the deltas, and each replica
-/// took exactly the numbers, of `played`, a definition that knows no sheet. Each sheet shows the settled values of the
-/// join of the deltas that its replica took (`settled`), and replicas that took the same deltas show the same (`same`).
+/// The contract states the main promise of a replicated sheet for any events:
 ///
-/// Nothing in the program calls it; tests do. It is part of the public interface as the model that states the headline.
+/// - The world has the deltas, and each replica took the numbers, that `played` gives. That definition knows no sheet.
+/// - Each sheet shows the settled values of the join of the deltas that its replica took (`settled`).
+/// - Replicas that took the same deltas show the same (`same`).
 ///
-/// An event that names an unknown replica or an unknown delta changes nothing. Neither does an edit that is refused for
-/// another cause than memory.
+/// Nothing in the program calls it; tests do. It is part of the public interface because it states this promise.
 ///
-/// Fails if the number of replicas is out of range, or when out of memory.
+/// An event that names an unknown replica or an unknown delta changes nothing. Neither does an edit that the sheet
+/// refuses for another cause than memory.
 ///
-/// Cost: opening n sheets, then that of each edit and of each delivery.
+/// # Errors
+///
+/// - `Refusal::Replica` if `replicas` is out of range.
+/// - `Refusal::Memory` when out of memory.
+///
+/// Cost: opening the sheets, and then each edit and each delivery.
 pub fn play<R: Threads + Sync, L: Ledger>(
     rt: &R,
     alloc: Global,
@@ -244,7 +251,7 @@ pub fn play<R: Threads + Sync, L: Ledger>(
     Ok(world)
 }
 
-/// New replicas, 1 to n.
+/// Returns new replicas with the numbers 1 to n. Fails only when out of memory.
 fn opened(alloc: Global, n: u8) -> Result<Vec<Replica>, Refusal>
     requires { n ≤ REPLICAS }
     ensures length { IfOk result (λ v. length v.items ≡ n) }

@@ -1,8 +1,8 @@
-//! Refused changes, most of them by one allocation failure, which leave the sheet as it was. The expected values are
-//! worked by hand from the rules.
+//! Refused changes leave the sheet as it was. Most are refused since one allocation fails. The expected values are
+//! worked out by hand.
 //!
-//! A test passes whichever single allocation is refused in its process (`tests/test_refused.py`). If the refused one
-//! comes before the call under test, everything is done once more.
+//! `tests/test_refused.py` lets one allocation fail in the process of a test, each in turn, and the test passes each
+//! time. If the allocation fails before the call under test, the test does everything once more.
 
 use crate::sheet::changes::Asked::{self, Add, Choose, Set, Sub, Unchoose};
 use crate::sheet::changes::Seen::{self, Num, Options, Text};
@@ -46,9 +46,9 @@ pub(crate) enum Way {
 #[derive(Clone, Copy)]
 pub(crate) struct Tries {
     pub(crate) way: Way,
-    /// each with its report or its refusal
+    /// each with its expected figures or its expected refusal
     pub(crate) changes: &'static [(Tried, Result<Figures, Refusal>)],
-    /// what cells show at the end
+    /// what cells are expected to show at the end
     pub(crate) shown: &'static [(&'static str, Seen)],
 }
 
@@ -57,7 +57,7 @@ fn at(rt: &impl Abort, place: usize) -> Cell {
     Cell::from_index(place).expect(rt, "a cell")
 }
 
-/// What a sheet showed, and how many deltas it had.
+/// What a sheet showed at some time, cell by cell, and how many deltas it had.
 #[derive(Drop)]
 struct Noted {
     version: u64,
@@ -73,7 +73,7 @@ fn note(rt: &impl Abort, alloc: Global, sheet: &Sheet) -> Result<Noted, Refusal>
     Ok(Noted { version, values })
 }
 
-/// The sheet is as it was noted.
+/// Asserts that the sheet is as it was noted.
 fn check_noted(rt: &impl Abort, sheet: &Sheet, noted: &Noted) {
     check_count(rt, u64::from(sheet.replica()), 1, "the replica");
     check_count(rt, sheet.version(), noted.version, "the version");
@@ -138,7 +138,7 @@ fn try_one<R: Abort + Threads + Sync>(
     }
 }
 
-/// The same as `note`, and once more if the first call is out of memory.
+/// Notes the sheet as `note` does, and calls `note` again if the first call is out of memory.
 fn note_surely(rt: &impl Abort, alloc: Global, sheet: &Sheet) -> Noted {
     match note(rt, alloc, sheet) {
         Ok(noted) => noted,
@@ -146,8 +146,8 @@ fn note_surely(rt: &impl Abort, alloc: Global, sheet: &Sheet) -> Noted {
     }
 }
 
-/// Makes a change with the given report or refusal, and calls again if the first call is out of memory. After a refusal
-/// the sheet is as it was noted.
+/// Makes a change, once more if the first time is out of memory, and asserts that it ends with the expected figures or
+/// refusal. Asserts that a refusal of the first call leaves the sheet as it was noted.
 fn try_again<R: Abort + Threads + Sync>(
     rt: &R,
     alloc: Global,
@@ -167,7 +167,7 @@ fn try_again<R: Abort + Threads + Sync>(
     sheet
 }
 
-/// Tries changes, one after another.
+/// Makes the changes of a list, one after another, and checks each.
 fn try_all<R: Abort + Threads + Sync>(
     rt: &R,
     alloc: Global,
@@ -181,7 +181,7 @@ fn try_all<R: Abort + Threads + Sync>(
     sheet
 }
 
-/// Tries changes at an empty sheet, and then looks at what cells show.
+/// Makes the changes of a list at an empty sheet, and checks what cells show at the end.
 fn try_anew<R: Abort + Threads + Sync>(
     rt: &R,
     alloc: Global,
@@ -195,7 +195,7 @@ fn try_anew<R: Abort + Threads + Sync>(
     Ok(())
 }
 
-/// Does so, and at a second sheet if the first run is out of memory before a call.
+/// Does what `try_anew` does, and once more at a second sheet if the first run is out of memory outside a checked call.
 pub(crate) fn check<R: Abort + Threads + Sync>(rt: &R, alloc: Global, tries: &Tries) {
     let mut ended = try_anew(rt, alloc, tries);
     if ended == Err(Refusal::Memory) {
@@ -204,7 +204,7 @@ pub(crate) fn check<R: Abort + Threads + Sync>(rt: &R, alloc: Global, tries: &Tr
     assert!(rt; ended.is_ok());
 }
 
-/// One cell.
+/// One edit of one cell.
 static FIRST: Tries = Tries {
     way: Made,
     changes: &[(One("A1", Set("5")), Ok([1, 0, 0, 0]))],
@@ -217,7 +217,7 @@ fn refused_open(rt: HostRuntime) {
     check(&rt, rt.alloc(), &FIRST);
 }
 
-/// Cells of each kind.
+/// Cells with contents of each kind.
 const KINDS: &[(&str, &str)] = &[
     ("A1", "@tally"),
     ("B1", "@choice"),
@@ -262,7 +262,7 @@ fn refused_edit(rt: HostRuntime) {
     check(&rt, rt.alloc(), &EDITS);
 }
 
-/// Two cells that are a cycle, and a number that keeps others from one.
+/// A1 and B1 are a cycle. C1 refers to D1, and would be on a cycle if D1 referred to it.
 const CYCLES: &[(&str, &str)] = &[
     ("A1", "=[.B1]"),
     ("B1", "=[.A1]"),
@@ -272,7 +272,7 @@ const CYCLES: &[(&str, &str)] = &[
     ("F1", "=[.C1]+1"),
 ];
 
-/// What they show, and what comes after them.
+/// What the cells of `CYCLES` show.
 const CYCLES_SHOWN: &[(&str, Seen)] = &[
     ("A1", CYCLE),
     ("B1", CYCLE),
@@ -282,7 +282,7 @@ const CYCLES_SHOWN: &[(&str, Seen)] = &[
     ("F1", Num(8)),
 ];
 
-/// Two deltas; each ends a cycle and begins another.
+/// Received deltas. `OVER` and `BACK` each end a cycle and begin another.
 static DELTAS: Tries = Tries {
     way: Made,
     changes: &[
@@ -294,7 +294,7 @@ static DELTAS: Tries = Tries {
     shown: CYCLES_SHOWN,
 };
 
-/// After a refused receipt the sheet is as before, and the next call takes the delta.
+/// After a refused `receive` the sheet is as before, and the next call accepts the delta.
 #[test]
 fn refused_receive(rt: HostRuntime) {
     check(&rt, rt.alloc(), &DELTAS);
@@ -314,7 +314,7 @@ static MERGES: Tries = Tries {
     shown: CYCLES_SHOWN,
 };
 
-/// After a refused merge the sheet is as before, and the next call takes what is new of the delta.
+/// After a refused `merge` the sheet is as before, and the next call appends what is new in the delta.
 #[test]
 fn refused_merge(rt: HostRuntime) {
     check(&rt, rt.alloc(), &MERGES);

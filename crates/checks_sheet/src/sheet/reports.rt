@@ -1,5 +1,5 @@
-//! What a change reports: the numbers of evaluated formulas, of cyclic cells, and of levels of the others. The expected
-//! numbers are worked by hand from the rules.
+//! What a change reports: the version, and the numbers of evaluated formulas, of cyclic formulas, and of levels of the
+//! other formulas that the change reaches. The expected numbers are worked out by hand.
 
 use crate::sheet::changes::Asked::Set;
 use crate::sheet::changes::CYCLE;
@@ -9,8 +9,8 @@ use crate::sheet::refused::Tried::{One, Received};
 use crate::sheet::refused::Way::Made;
 use crate::sheet::refused::{Tries, check};
 
-/// Two ranges that meet are one reference. Formulas that refer to a changed cell are evaluated, and then those that
-/// refer to them.
+/// A formula that refers to a cell by two ranges is evaluated once. Formulas that refer to a changed cell are
+/// evaluated, and then those that refer to them.
 static REACHED: Tries = Tries {
     way: Made,
     changes: &[
@@ -27,7 +27,8 @@ static REACHED: Tries = Tries {
     shown: &[("A1", Num(14))],
 };
 
-/// A formula that keeps its value stops the evaluation there; the levels count what could have changed.
+/// If a formula keeps its value, the formulas that refer only to it aren't evaluated. The levels count them all the
+/// same.
 static STAYING: Tries = Tries {
     way: Made,
     changes: &[
@@ -42,8 +43,7 @@ static STAYING: Tries = Tries {
     shown: &[("B1", Num(0)), ("C1", Num(1)), ("D1", Num(0))],
 };
 
-/// Number after number in one cell, with other formulas that refer to it between them, and a formula in the cell
-/// itself.
+/// One number after another in A1. Between them, formulas that refer to A1 are entered, and once a formula in A1.
 static FOLLOWED: Tries = Tries {
     way: Made,
     changes: &[
@@ -74,7 +74,7 @@ static ALIKE: Tries = Tries {
     shown: &[("B1", Num(0)), ("A1", Text("5"))],
 };
 
-/// `B1` ends the cycle of `A1` and `B1`, and `C1` closes one with `A1`.
+/// A delta in which `B1` ends the cycle of `A1` and `B1`, and `C1` closes one with `A1`.
 const TURNED: &[(&str, Part)] = &[
     ("A1", Assigned(2, 2, "=[.C1]")),
     ("B1", Assigned(2, 2, "4")),
@@ -127,7 +127,7 @@ static CHAIN: Tries = Tries {
     shown: &[("E1", Num(5))],
 };
 
-/// A1 is level 1, B1 and C1 are level 2, D1 is level 3.
+/// When A1 changes, A1 is on level 1, B1 and C1 are on level 2, and D1 is on level 3.
 static DIAMOND: Tries = Tries {
     way: Made,
     changes: &[
@@ -141,7 +141,7 @@ static DIAMOND: Tries = Tries {
     shown: &[("D1", Num(6))],
 };
 
-/// A2 counts once in the two ranges of B1, where it has a level and where it is cyclic.
+/// A2 lies in both ranges of B1, and counts once, whether it has a level or is cyclic.
 static OVERLAPPING: Tries = Tries {
     way: Made,
     changes: &[
@@ -156,7 +156,8 @@ static OVERLAPPING: Tries = Tries {
     shown: &[("B1", CYCLE)],
 };
 
-/// C1 is reached and refers to A1, which isn't, and is on a cycle: C1 is cyclic.
+/// A change of D1 reaches C1. C1 also refers to A1, which the change doesn't reach and which is on a cycle. So C1 is
+/// cyclic.
 static OUTSIDE: Tries = Tries {
     way: Made,
     changes: &[
@@ -169,7 +170,7 @@ static OUTSIDE: Tries = Tries {
     shown: &[],
 };
 
-/// A1 no longer refers to B1, which refers to A1: two levels, and no cyclic cell.
+/// The last change ends the cycle of A1 and B1: A1 no longer refers to B1. That gives two levels, and no cyclic cell.
 static BEFORE: Tries = Tries {
     way: Made,
     changes: &[
@@ -180,7 +181,7 @@ static BEFORE: Tries = Tries {
     shown: &[],
 };
 
-/// Each list at an empty sheet of its own.
+/// Makes the changes of each list at an empty sheet of its own, and checks what they report and what cells then show.
 #[test]
 fn changes_report_what_they_reach(rt: HostRuntime) {
     for tries in [

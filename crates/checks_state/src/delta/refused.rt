@@ -1,7 +1,7 @@
-//! Joins that are called again after one allocation is refused.
+//! Joins of deltas that are called again after one allocation fails.
 //!
-//! A test passes whichever single allocation is refused in its process (`tests/test_refused.py`). If the refused one
-//! comes before the call under test, everything is done once more.
+//! `tests/test_refused.py` lets one allocation fail in the process of a test, each in turn, and the test passes each
+//! time. If the allocation fails before the call under test, the test does everything once more.
 
 ghost use Rattle.std.specs.Prelude.{◌<◌, length};
 
@@ -11,7 +11,7 @@ use ps_grid::Refusal;
 use ps_wire::{decode, encode};
 use std::alloc::Global;
 
-/// Appends the deltas of these lines.
+/// Appends the deltas of these lines to `deltas`.
 fn read(alloc: Global, lines: &str, deltas: &mut Vec<Delta>) -> Result<(), Refusal> {
     for line in lines.lines() {
         deltas.push(decode(alloc, line.as_bytes())?)?;
@@ -29,7 +29,7 @@ fn joined_again(alloc: Global, deltas: &[Delta]) -> Result<Delta, Refusal>
     }
 }
 
-/// Whether the join of the deltas is written as the line of the six.
+/// Whether the join of the deltas is written as the line `SIX_JOINED`.
 fn is_six(alloc: Global, deltas: &[Delta]) -> Result<bool, Refusal>
     requires { 0 < length deltas.now }
 {
@@ -50,7 +50,7 @@ fn refuse_joined(alloc: Global) -> Result<bool, Refusal> {
     }
 }
 
-/// A join of six deltas that is refused is `Memory`, and the next one is their join.
+/// A refused `Delta::joined` of six deltas is `Memory`, and the next call returns their join.
 #[test]
 fn refused_joined(rt: HostRuntime) {
     let mut found = refuse_joined(rt.alloc());

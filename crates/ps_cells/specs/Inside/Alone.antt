@@ -1,4 +1,4 @@
--- Cells that no formula reads and that have none.
+-- Cells that are alone: they have no formula, and no formula refers to them.
 use Rattle.std.specs.Prelude.{ℕ, Bool, true, false, not, ◌&&◌, List, [], ◌∷◌}
 use Rattle.ps_delta.specs.declared.cell_state.CellState.{CellState}
 use Rattle.ps_cells.specs.Settled.{content_of}

@@ -19,7 +19,7 @@ as_list (Some t) = t ∷ []
 abbrev pub forms_of : State → Puts
 forms_of s c = as_list (formula_in (content_of (s c)))
 
--- with the formulas of the entries put in, one after the other
+-- the formulas `forms`, and also those of the entries, put in one after the other
 abbrev pub with_puts : Entries → Puts → Puts
 with_puts entries forms = fold (λ f e. with_put e.0 (formula_in (content_of e.1)) f) forms entries
 
@@ -27,6 +27,6 @@ with_puts entries forms = fold (λ f e. with_put e.0 (formula_in (content_of e.1
 abbrev pub firsts : Entries → List (ℕ × Value)
 firsts entries = map (λ e. (e.0, first_value e.1)) entries
 
--- the cells with what is kept of them
+-- the cells, each with the value that is stored for it
 abbrev pub shown_firsts : List (ℕ × Kept) → List (ℕ × Value)
 shown_firsts cells = map (λ e. (e.0, value_kept e.1)) cells

@@ -1,4 +1,4 @@
--- What the cells keep, and what a recalculation needs and gives.
+-- What holds of the tables between two changes, and what a recalculation needs and gives.
 use Rattle.std.specs.Prelude.{◌≡◌, ◌≤◌, ◌<◌, ◌⊎◌, ℕ, true, false, List, [], length, map, nat_eq}
 use Rattle.std.specs.List.{All, IsDistinct}
 use Rattle.ps_grid.specs.Chains.{In, InRegion, IsDepth}
@@ -34,7 +34,8 @@ pub record IsWhole (x : Tables) : Type 0 where
   pub tidy : IsTidy (state_at x.grid) x
   pub still : x.shown.olds ≡ []
 
--- WITHIN A CHANGE: the touched cells hold what they are to hold, and nothing else is done
+-- WITHIN A CHANGE: the touched cells hold their new states, and nothing else is done yet; `first` has what they show at
+-- first
 pub record MayRecalculate (x : Tables) (touched : List ℕ) (first : List (ℕ × Kept)) : Type 0 where
   pub before : State
   pub change : IsStateChange before (state_at x.grid) (shown_at x.shown.kept) touched

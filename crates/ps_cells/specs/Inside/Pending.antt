@@ -1,4 +1,4 @@
--- A change that is made and can be taken back.
+-- A change that is made and can still be cancelled.
 use Rattle.std.specs.Prelude.{◌≡◌}
 use Rattle.std.specs.List.Sorted.{IsStrictlyIncreasing}
 use Rattle.ps_index.specs.Stands.{Stands}
@@ -12,8 +12,8 @@ use Rattle.ps_cells.specs.Inside.Kept.{IsTidy}
 use Rattle.ps_cells.specs.Inside.Screens.{before_of}
 use Rattle.ps_cells.specs.declared.tables.Tables.{Tables}
 
--- PENDING: the touched cells had the states of `olds`, and that was the settled state s; the cells hold and show what
--- they do after the change, and the index has old and new formulas
+-- PENDING: before the change the touched cells had the states of `olds`, all cells had the state s, and their values
+-- were settled; the cells hold and show what they do after the change, and the index has old and new formulas
 pub record IsPending (s : State) (x : Tables) (olds : Entries) : Type 0 where
   pub was_in_grid : IsInGrid s
   pub was_settled : IsSettled s (before_of x.shown)

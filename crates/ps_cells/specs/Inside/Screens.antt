@@ -1,4 +1,4 @@
--- What the cells show, and what those that were put showed before.
+-- What the cells show, and what the cells that were put showed before.
 use Rattle.std.specs.Prelude.{◌≡◌, ◌≢◌, ◌↔◌, ◌⊎◌, ℕ, Bool, true, false, List, [], ◌∷◌, ◌++◌, length, map, nat_eq}
 use Rattle.std.specs.List.{IsDistinct}
 use Rattle.ps_grid.specs.Chains.{In}
@@ -13,8 +13,8 @@ use Rattle.ps_region.specs.CellSets.{has_cell}
 use Rattle.ps_cells.specs.Inside.Steps.{flag_at}
 use Rattle.ps_cells.specs.Inside.Waiting.{is_waiting}
 
--- what is kept of the cells, of those that were put what was kept before, the cells that were listed last as showing
--- another value, and the cells whose values were listed last, with these
+-- `kept` has what is stored for each cell; `olds` what was stored before for the cells that were put; `changed` the
+-- cells that were listed last as showing another value; `changes` the cells and values that were listed last
 pub record ScreenView : Type 0 where
   pub kept : List Kept
   pub olds : List (ℕ × Kept)
@@ -29,7 +29,7 @@ cells_in olds = map (λ e. e.0) olds
 abbrev pub before_of : ScreenView → Assignment
 before_of s = put_back s.olds (shown_at s.kept)
 
--- each cell of the list once, and the flags say which
+-- the list has each cell once, and exactly its cells are flagged
 pub record IsNoted (olds : List (ℕ × Kept)) (flags : List Bool) : Type 0 where
   pub length : length flags ≡ CELLS
   pub once : IsDistinct nat_eq (cells_in olds)
@@ -41,7 +41,7 @@ pub record Differ (w v : Assignment) (cells : List ℕ) : Type 0 where
   pub once : IsDistinct nat_eq cells
   pub exact : (c : ℕ) → In cells c ↔ ¬ (w c ≡ v c)
 
--- ONE CELL is listed, where the cells show w, if that is another value than the one that was kept of it
+-- ONE CELL is added to the list if it shows another value, by w, than the one that was stored for it before
 abbrev pub ListsDiffering : ℕ × Kept → Assignment → List ℕ → List ℕ → Type 0
 ListsDiffering e w cells cells2 =
     ((w e.0 ≡ value_kept e.1) × (cells2 ≡ cells)) ⊎ ((¬ (w e.0 ≡ value_kept e.1)) × (cells2 ≡ cells ++ e.0 ∷ []))
@@ -50,7 +50,7 @@ ListsDiffering e w cells cells2 =
 abbrev pub ShowCycle : Assignment → List Bool → Type 0
 ShowCycle w set = (c : ℕ) → has_cell set c ≡ is_waiting (w c)
 
--- ONE CELL is put into the set if #CYCLE! was kept of it, or else taken out
+-- ONE CELL is put into the set if #CYCLE! was stored for it, or else taken out
 abbrev pub HoldsAsKept : ℕ × Kept → List Bool → List Bool → Type 0
 HoldsAsKept e set set2 =
     (has_cell set2 e.0 ≡ is_waiting (value_kept e.1)) × ((c : ℕ) → c ≢ e.0 → has_cell set2 c ≡ has_cell set c)

@@ -1,4 +1,4 @@
--- What cells keep beside what contracts see.
+-- How contracts see `Cells`, and its invariant.
 use Rattle.std.specs.Prelude.{Bool, true, false, Option, Some, None}
 use Rattle.ps_delta.specs.State.{state_at}
 use Rattle.ps_delta.specs.Deltas.{Entries, overlaid}

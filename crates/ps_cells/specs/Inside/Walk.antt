@@ -17,19 +17,19 @@ pub use Rattle.ps_cells.specs.Recalculated.{formula_at, InFrame, Changed, IsDue,
 abbrev pub IsQuiet : State → List ℕ → Assignment → Assignment → ℕ → Type 0
 IsQuiet t touched v u c = ¬ In touched c × ((d : ℕ) → refers_to t c d ≡ true → u d ≡ v d)
 
--- a change from the state s to the state t, where s shows v: just the touched cells differ
+-- a change from the state s, which shows v, to the state t: they differ at touched cells alone
 pub record IsStateChange (s t : State) (v : Assignment) (touched : List ℕ) : Type 0 where
   pub settled : IsSettled s v
   pub before : IsInGrid s
   pub after : IsInGrid t
   pub same : (c : ℕ) → ¬ In touched c → s c ≡ t c
 
--- the list has each cell that refers to x, and others at most where they are touched
+-- the list has each cell that refers to x; any other cell in it is touched
 pub record Lists (refers : References) (touched : List ℕ) (x : ℕ) (listed : List ℕ) : Type 0 where
   pub all : (c : ℕ) → refers c x ≡ true → In listed c
   pub extra : (c : ℕ) → In listed c → (refers c x ≡ true) ⊎ In touched c
 
--- the cell x gets the value y, and where that is another value than it showed, the cells of the list are flagged
+-- the cell x gets the value y; if that is another value than it showed, the cells of the list are flagged
 pub record Shows (x : ℕ) (y : Value) (listed : List ℕ) (u u2 : Assignment) (flags flags2 : ℕ → Bool) : Type 0 where
   pub here : u2 x ≡ y
   pub others : (c : ℕ) → c ≢ x → u2 c ≡ u c
@@ -67,11 +67,11 @@ pub record Walked (t : State) (v : Assignment) (touched : List ℕ) (Done : ℕ 
   pub closed : (c d : ℕ) → Done c → refers_to t c d ≡ true → InFrame t touched d → Done d
   pub counted : IsCount (λ c. Done c × IsDue t touched v u c) count
 
--- where a source is given: it is the region of a change of that cell alone, by the formulas of the state s
+-- if there is a source, f is the region of a change of that cell alone, by the formulas of the state s
 abbrev pub IsRegionOf : State → Option ℕ → Found → Type 0
 IsRegionOf s source f = IfSome source (λ c. IsFound (refers_to s) (formula_at s) (c ∷ []) f)
 
--- the set has just the cyclic cells
+-- the set has exactly the cyclic cells
 pub record HoldsCyclic (t : State) (set : List Bool) : Type 0 where
   pub sound : (c : ℕ) → has_cell set c ≡ true → Cyclic t c
   pub complete : (c : ℕ) → Cyclic t c → has_cell set c ≡ true
@@ -90,7 +90,7 @@ pub record AreLevels (t : State) (touched : List ℕ) (level : ℕ → List ℕ)
 abbrev pub IsPassed : (ℕ → List ℕ) → ℕ → List ℕ → ℕ → Type 0
 IsPassed level n cells c = ((k : ℕ) × (0 < k) × (k < n) × In (level k) c) ⊎ In cells c
 
--- the cells of the frame have depths in it of up to k, which is one of them unless it is 0
+-- k is the greatest depth of a cell of the frame in the frame; 0 if the frame is empty
 pub record IsGreatestDepth (t : State) (touched : List ℕ) (k : ℕ) : Type 0 where
   pub most : (c d : ℕ) → InFrame t touched c → IsDepth (refers_to t) (InFrame t touched) c d → d ≤ k
   pub reached : 0 < k → (c : ℕ) × InFrame t touched c × IsDepth (refers_to t) (InFrame t touched) c k

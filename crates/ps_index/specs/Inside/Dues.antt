@@ -1,4 +1,4 @@
--- How the spans of a formula come to the columns, and go from them.
+-- Which spans a formula puts into the columns, and takes out of them.
 use Rattle.std.specs.Prelude.{◌≡◌, ℕ, ◌+◌, ◌*◌, ◌<◌, ◌≤◌, Bool, true, false, ◌&&◌, ◌==◌, nat_lt, nat_le, cond, Option}
 use Rattle.std.specs.Prelude.{None, Some, List}
 use Rattle.ps_grid.specs.Rectangle.{Area}
@@ -11,18 +11,18 @@ use Rattle.ps_index.specs.Inside.Places.{covered}
 use Rattle.ps_index.specs.Spans.{count_of, same_span}
 use Rattle.ps_index.specs.Stands.{is_run, refers_row, spans_of}
 
--- whether a rectangle has a row of a column
+-- whether one of the rectangles has the row y of column k
 unfoldable pub covered_row : List Area → ℕ → ℕ → Bool
 covered_row rects k y = nat_le 1 y && nat_le y ROWS && covered rects (k * STRIDE + y)
 
--- whether a span of a cell is a run of rows of the rectangles, and ends before a place
+-- whether a span of the cell c is a run of rows of the rectangles in column k, and ends before the place `stop`
 unfoldable pub due : List Area → ℕ → ℕ → ℕ → Span → Bool
 due rects c stop k s = (s.cell == c) && is_run (covered_row rects k) s.from s.to && nat_lt (k * STRIDE + s.to) stop
 
 abbrev pub one_if : Bool → ℕ
 one_if b = cond b 1 0
 
--- the spans of each column after those that are due before a place were put in, by how often each stands there
+-- each column of `after` has the spans of `columns`, and once more those that are due before the place `stop`
 abbrev pub WithDue : List Area → ℕ → ℕ → List (List Span) → List (List Span) → Type 0
 WithDue rects c stop columns after = (k : ℕ) (s : Span) → k < COLUMNS
     → count_of s (spans_of after k) ≡ count_of s (spans_of columns k) + one_if (due rects c stop k s)
@@ -40,12 +40,12 @@ pub record IsNextSpan (rects : List Area) (place c from end k : ℕ) (x : Span) 
   pub step : (j : ℕ) (s : Span) → one_if (due rects c end j s) ≡ one_if (due rects c place j s) + one_if
       ((j == k) && same_span s x)
 
--- whether a span is a run of rows of a formula of the cell c
+-- 1 if the span is a run of rows of column k that a formula of the cell c refers to, or else 0
 abbrev pub part : ℕ → Option Tree → ℕ → Span → ℕ
 part c None k s = 0
 part c (Some t) k s = one_if ((s.cell == c) && is_run (refers_row t k) s.from s.to)
 
--- the spans of each column after those of a formula of a cell were put in
+-- each column of `after` has the spans of `columns`, and once more those of a formula of the cell c, if there is one
 abbrev pub WithFormula : ℕ → Option Tree → List (List Span) → List (List Span) → Type 0
 WithFormula c o columns after = (k : ℕ) (s : Span) → k < COLUMNS
     → count_of s (spans_of after k) ≡ count_of s (spans_of columns k) + part c o k s

@@ -2,6 +2,6 @@
 use Rattle.std.specs.Prelude.{ℕ, ◌+◌, List, ◌++◌, take, drop}
 use Rattle.ps_index.specs.declared.span.Span.{Span}
 
--- the spans of these places, where `free` places behind the first `front` ones are free
+-- the spans of these places: all places except the `free` ones behind the first `front`
 unfoldable pub parted : List Span → ℕ → ℕ → List Span
 parted places front free = take front places ++ drop (front + free) places

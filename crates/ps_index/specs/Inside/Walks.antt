@@ -5,12 +5,13 @@ use Rattle.ps_index.specs.declared.span.Span.{Span}
 use Rattle.ps_index.specs.Inside.Nodes.{node_of, rounded}
 use Rattle.ps_index.specs.Spans.{cell_of, cells_from, holds, refers_at}
 
--- a span that has row y is kept at y, or, from the lowest level of ranges on and below another, at a row above it
+-- a row that may store spans with row y: y itself, or a row above it in the tree, of a level from `lowest` on and below
+-- `above`
 abbrev pub IsLooked : ℕ → ℕ → ℕ → ℕ → Type 0
 IsLooked lowest above y key = (key ≡ y)
     ⊎ ((k : ℕ) × (lowest ≤ k) × (k < above) × (key ≡ node_of y k) × (rounded y k < y))
 
--- the runs are those of some rows, and of each row where a span may be kept and one is
+-- each run has the spans stored at some row, and each row that is looked at and stores any has a run
 pub record IsRuns (column : List ℕ) (Looked : ℕ → Type 0) (starts ends : List ℕ) (runs : ℕ) : Type 0 where
   pub few : runs ≤ 11
   pub sound : (r : ℕ) → r < runs → (key : ℕ) × (1 ≤ key) × (key ≤ ROWS)
@@ -20,7 +21,8 @@ pub record IsRuns (column : List ℕ) (Looked : ℕ → Type 0) (starts ends : L
       → (r : ℕ) × (r < runs) × (get_or starts r 0 ≡ get_or column (key - 1) 0)
       × (get_or ends r 0 ≡ get_or column key 0)
 
--- a walk of the cells from `least` on with a span that has row y: of run r, the spans from `at r` on are to come
+-- a walk of the cells from `least` on with a span that has row y: of run r, the spans at the places from `starts r` up
+-- to `ends r` are still to come
 pub record IsWalk (spans : List Span) (y : ℕ) (starts ends : List ℕ) (runs least : ℕ) : Type 0 where
   pub few : runs ≤ 11
   pub rising : (r : ℕ) → r < runs → get_or starts r 0 ≤ get_or ends r 0
@@ -50,8 +52,8 @@ pub record IsMoved (spans : List Span) (y : ℕ) (starts ends : List ℕ) (runs 
   pub ahead : IsAhead spans y starts ends runs next
   pub none_passed : cells_from (refers_at spans y) least CELLS ≡ cells_from (refers_at spans y) next CELLS
 
--- a walk of the cells from `least` on with a span that has row y, where those that are to come stand from a place up to
--- another and all have the row
+-- a walk of the cells from `least` on with a span that has row y: the spans that are to come are those from `place` up
+-- to `end`, and all have the row
 pub record IsRowWalk (spans : List Span) (y place end least : ℕ) : Type 0 where
   pub ordered : place ≤ end
   pub within : end ≤ length spans
@@ -62,7 +64,8 @@ pub record IsRowWalk (spans : List Span) (y place end least : ℕ) : Type 0 wher
       → (place ≤ i) × (i < end)
   pub in_grid : (i : ℕ) (d : Span) → i < length spans → cell_of spans i d < CELLS
 
--- a place in a run of spans that ends at another, and the cell of its span, which has row y; CELLS where it is the end
+-- a place in a run of spans that ends at `end`, and the cell of its span, which has row y; at the end, the cell is
+-- CELLS
 pub record IsAt (spans : List Span) (y place «end» cell : ℕ) : Type 0 where
   pub small : cell ≤ CELLS
   pub none : «end» ≤ place → cell ≡ CELLS

@@ -1,4 +1,5 @@
--- Counts of the references that are not released yet, and the queue of the cells whose count is 0.
+-- Counts of the references that are not released yet, and the queue of the cells whose count is 0. A reference is
+-- released once the walk along the queue has passed the cell that it refers to.
 use Rattle.std.specs.Prelude.{◌≡◌, ◌+◌, ◌<◌, ℕ, zero, suc, Bool, true, cond, not, ◌&&◌, ◌⊎◌, List}
 use Rattle.std.specs.Prelude.{◌++◌, length, nat_eq, slice_index, slice_index_or}
 use Rattle.std.specs.List.{list_any, IsDistinct}
@@ -7,7 +8,7 @@ use Rattle.ps_grid.specs.Chains.{References, In}
 abbrev pub as_one : Bool → ℕ
 as_one b = cond b 1 0
 
--- how many numbers below n pass
+-- how many numbers below n pass the test
 unfoldable pub count_below : (ℕ → Bool) → ℕ → ℕ
 count_below p zero = 0
 count_below p (suc n) = count_below p n + as_one (p n)
@@ -16,7 +17,7 @@ count_below p (suc n) = count_below p n + as_one (p n)
 abbrev pub waiting : (ℕ → Bool) → List ℕ → ℕ → Bool
 waiting p done d = p d && not (list_any (nat_eq d) done)
 
--- how many cells of those that c refers to are not released
+-- how many of the cells below n that c refers to are not released
 abbrev pub cells_left : References → (ℕ → Bool) → List ℕ → ℕ → ℕ → ℕ
 cells_left refers p done n c = count_below (λ d. refers c d && waiting p done d) n
 
@@ -28,7 +29,7 @@ is_in cells c = list_any (nat_eq c) cells
 abbrev pub is_walked : (ℕ → Bool) → List ℕ → ℕ → Bool
 is_walked formula done d = list_any (nat_eq d) done && formula d
 
--- the count of a cell of a list; a cell that isn't there has none yet
+-- the count of a cell of the list `members`; it is 0 for a cell that isn't in the list
 abbrev pub counted_in : List ℕ → List ℕ → ℕ → ℕ
 counted_in members left q = cond (list_any (nat_eq q) members) (slice_index_or left q 0) 0
 

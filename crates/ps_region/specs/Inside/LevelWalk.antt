@@ -12,7 +12,7 @@ is_frame formula marks c = slice_index_or marks c false && formula c
 abbrev pub is_pending : (ℕ → Bool) → (ℕ → Bool) → List Bool → ℕ → Bool
 is_pending formula was marks d = cond (slice_index_or marks d false) (formula d) (was d)
 
--- a formula cell whose count is 0, or is not
+-- ready: a formula cell whose count is 0; held: one whose count isn't
 abbrev pub is_ready : (ℕ → Bool) → List ℕ → ℕ → Bool
 is_ready formula left c = formula c && (slice_index_or left c 0 == 0)
 

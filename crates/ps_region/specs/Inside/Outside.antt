@@ -17,11 +17,11 @@ is_covered rects d = list_any (λ r. is_inside r d) rects
 abbrev pub is_new : List Bool → List Bool → List Area → ℕ → Bool
 is_new set marks rects d = is_outside set marks d && not (is_covered rects d)
 
--- a cell of the first columns of a rectangle
+-- a cell of the first `across` columns of a rectangle
 abbrev pub in_columns : Area → ℕ → ℕ → Bool
 in_columns r across d = is_inside r d && nat_lt (d % COLUMNS) (r.left + across)
 
--- a cell of the first rows of one of its columns
+-- a cell of the first `down` rows in the column `across` of a rectangle
 abbrev pub in_rows : Area → ℕ → ℕ → ℕ → Bool
 in_rows r across down d =
     is_inside r d && (nat_eq (d % COLUMNS) (r.left + across) && nat_lt (d / COLUMNS) (r.top + down))

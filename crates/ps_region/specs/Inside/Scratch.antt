@@ -1,4 +1,4 @@
--- The scratch of a region, between calls. The first mark writes the tables whole; up to then they are empty.
+-- The working memory of a region, between calls. The tables are empty until the first mark writes them whole.
 use Rattle.std.specs.Prelude.{◌≡◌, ◌<◌, ◌≤◌, ℕ, true, false, length, slice_index_or, vec_capacity}
 use Rattle.ps_grid.specs.Chains.{In}
 use Rattle.ps_grid.specs.declared.size.TheConstants.{CELLS}

@@ -1,4 +1,4 @@
--- The counts of a set of cells: of all of them, and of those in each block, which is some rows of one column.
+-- The counts of a set of cells: of the whole set, and of its cells in each block, which is `HIGH` rows of one column.
 use Rattle.std.specs.Prelude.{◌≡◌, ◌+◌, ◌*◌, ◌/◌, ◌%◌, ◌<◌, ℕ, Bool, ◌&&◌, List, length, nat_eq, slice_index}
 use Rattle.ps_grid.specs.declared.size.TheConstants.{CELLS, COLUMNS}
 use Rattle.ps_region.specs.CellSets.{has_cell}
@@ -9,7 +9,7 @@ use Rattle.ps_region.specs.declared.cell_set.TheConstants.{BLOCKS, HIGH}
 abbrev pub block_of : ℕ → ℕ
 block_of c = c % COLUMNS * BLOCKS + c / COLUMNS / HIGH
 
--- a place for each cell and for each block; how many cells there are, and how many in each block
+-- `cells` marks the set, `all` counts its cells, and `blocks` counts those in each block
 pub record IsTallied (cells : List Bool) (blocks : List ℕ) (all : ℕ) : Type 0 where
   pub whole : length cells ≡ CELLS
   pub divided : length blocks ≡ COLUMNS * BLOCKS

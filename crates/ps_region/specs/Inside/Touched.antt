@@ -1,12 +1,12 @@
--- What is noted of the touched cells.
+-- What a mark notes about the touched cells.
 use Rattle.std.specs.Prelude.{◌≡◌, ℕ, Bool, false, not, ◌&&◌, List, nat_eq, slice_index_or}
 use Rattle.std.specs.List.{list_any}
 
--- just the touched cells are flagged
+-- exactly the touched cells are flagged
 abbrev pub FlagsTouched : List Bool → List ℕ → Type 0
 FlagsTouched fresh touched = (c : ℕ) → slice_index_or fresh c false ≡ list_any (nat_eq c) touched
 
--- just the touched cells without a formula are plain
+-- exactly the touched cells without a formula are plain
 abbrev pub IsPlain : (ℕ → Bool) → List Bool → List ℕ → Type 0
 IsPlain formula plain touched =
     (c : ℕ) → slice_index_or plain c false ≡ (list_any (nat_eq c) touched && not (formula c))

@@ -1,5 +1,5 @@
--- What a sheet with a staged change keeps beside what contracts see, and what the sheet and the prepared change make of
--- it.
+-- What a sheet with a staged change stores beside what contracts see, and how contracts see it: as a `Staging`, and as
+-- a `Prepared`.
 use Rattle.std.specs.Prelude.{◌≡◌, ◌≤◌, ◌<◌, true, false, Option, Some, None, is_some, [], ◌∷◌, ◌++◌}
 use Rattle.std.specs.Prelude.{IsSomeAnd, Vec, vec_len, vec_capacity, ℕ, ◌+◌, ◌⊎◌}
 use Rattle.ps_grid.specs.declared.parties.TheConstants.{REPLICAS}
@@ -34,7 +34,8 @@ view_of x = record {
   staged = staged_of x.cells x.staged;
 }
 
--- where a change is staged the cells hold what the history joins to after it; where none is, nothing is staged in them
+-- the cells hold what the history joins to, with the delta of the staged change; if no change is staged, nothing is
+-- staged in the cells either
 abbrev pub IsStagedBy : StagingView → CellsView → Option StagedView → Type 0
 IsStagedBy x cells None = (state_now cells ≡ joined_history x.history) × (cells.staged ≡ None)
 IsStagedBy x cells (Some p) = state_now cells ≡ joined_history (history_after (prepared_of x p))
@@ -50,7 +51,7 @@ pub record IsKept (x : Inside) : Type 0 where
   pub in_grid_now : IsInGrid (state_now x.cells)
   pub replica : (1 ≤ x.replica) × (x.replica ≤ REPLICAS)
 
--- what a prepared change is: the staged one; where none were staged, that of nothing
+-- the prepared change that contracts see: the staged one, or an empty one if none is staged
 abbrev pub prepared_by : StagingView → Option StagedView → PreparedView
 prepared_by x None = prepared_of x (record {
   delta = [];
@@ -62,11 +63,11 @@ prepared_by x None = prepared_of x (record {
 })
 prepared_by x (Some p) = prepared_of x p
 
--- a change is staged, and what is true of each prepared change is true of it
+-- a change is staged, and what holds of each prepared change holds of it
 abbrev pub StagesPrepared : StagingView → Type 0
 StagesPrepared x = IsSomeAnd x.staged (λ p. IsPrepared (prepared_of x p))
 
--- the prepared change q is the change p, whichever values were listed
+-- the prepared changes p and q are the same, apart from what was listed
 pub record Prepares (p q : PreparedView) : Type 0 where
   pub replica : q.replica ≡ p.replica
   pub history : q.history ≡ p.history
@@ -77,8 +78,8 @@ pub record Prepares (p q : PreparedView) : Type 0 where
   pub report : q.report ≡ p.report
   pub workers : q.workers ≡ p.workers
 
--- MAKES: of the sheet x the change c makes the sheet y, with the report r: its delta is appended to the history, unless
--- it is below the state; then all stays
+-- MAKES: the change c makes the sheet y of the sheet x, with the report r. The delta of c is appended to the history,
+-- unless it is below the state; then the sheet stays as it is
 pub record Makes (x y : SheetView) (c : Change) (r : Report) : Type 0 where
   pub delta : Entries
   pub of : IsDeltaOf x.replica (joined_history x.history) c delta
@@ -86,6 +87,6 @@ pub record Makes (x y : SheetView) (c : Change) (r : Report) : Type 0 where
   pub appended : IsToAppend x.replica (joined_history x.history) c → y.history ≡ x.history ++ delta ∷ []
   pub idle : IsBelow (state_of delta) (joined_history x.history) → IsIdle x y r
 
--- there is room for so many more, or nothing is there
+-- the vector has room for n more items, or is empty
 abbrev pub HasRoomAfter : {X Z : Type 0} → Vec X Z → ℕ → Type 0
 HasRoomAfter v n = (v.items ≡ []) ⊎ (vec_len v + n ≤ vec_capacity v)

@@ -1,10 +1,10 @@
--- What is answered by what makes the delta of an edit.
+-- What the function that makes the delta of an edit returns.
 use Rattle.std.specs.Prelude.{◌≡◌, ◌⊎◌, Result, Ok, Err, IfOk, IfErr, IsErrOf, IsOk}
 use Rattle.ps_grid.specs.declared.refusal.Refusal.{Refusal}
 use Rattle.ps_grid.specs.declared.refusal.Refusal.TheVariants.{Memory}
 use Rattle.ps_delta.specs.Deltas.{Entries, IsDelta}
 
--- the answer is the delta that there is to make, or that memory ran out; or else the refusal that there is
+-- the answer is the wanted delta, the wanted refusal, or `Memory`; `Memory` only if a delta is wanted
 pub record MakesDelta (wanted answer : Result Entries Refusal) : Type 0 where
   pub made : IfOk answer (λ d. wanted ≡ Ok d)
   pub delta : IfOk answer IsDelta

@@ -18,6 +18,6 @@ pub record IsNew (r : ℕ) (x : ReplicaView) : Type 0 where
   pub history : x.sheet.history ≡ []
   pub taken : IsEmpty x.taken
 
--- so is each replica of a list
+-- each replica of a list is new
 abbrev pub AreNew : List ReplicaView → Type 0
 AreNew replicas = (r : ℕ) (x : ReplicaView) → replica_at replicas r ≡ Some x → IsNew r x

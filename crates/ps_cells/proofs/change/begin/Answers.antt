@@ -8,7 +8,7 @@ use Rattle.ps_cells.specs.Inside.Formulas.{with_puts}
 use Rattle.ps_cells.proofs.AloneEntries.{alone_puts}
 use Rattle.ps_cells.proofs.change.begin.Goals as goal
 
--- what is true is so where there is no refusal
+-- what is true is true if the result is Ok
 when_ok : {T E : Type 0} (r : Result T E) (P : Type 0) → P → OnOk r P
 when_ok (Ok t) P p = p
 when_ok (Err e) P p = tt

@@ -7,7 +7,8 @@ use Rattle.ps_cells.specs.Inside.Steps.{flag_at}
 use Rattle.ps_cells.specs.Inside.Screens.{cells_in, put_back}
 use Rattle.ps_cells.proofs.screen.put_olds.Given as goal
 
--- what is still to be put back makes the same of what is shown, and the cells of it are flagged at most
+-- with the old values that are still to be put back, the shown values become what they would have become at first; only
+-- the cells of these old values are flagged
 abbrev pub invariant-olds : goal.invariant-olds
 invariant-olds l = record {
   back : put_back l.olds.items (shown_at l.shown) ≡ put_back l.initial.olds.items (shown_at l.initial.shown);

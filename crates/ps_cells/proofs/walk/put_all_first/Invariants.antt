@@ -3,7 +3,7 @@ use Rattle.ps_shown.specs.Shown.{shown_at}
 use Rattle.ps_cells.specs.Inside.Screens.{before_of, put_back}
 use Rattle.ps_cells.proofs.walk.put_all_first.Given as goal
 
--- what is still to be put makes the same of what is shown
+-- with the values that are still to be put, the shown values become what they would have become at first
 abbrev pub invariant-first : goal.invariant-first
 invariant-first l = record {
   put : put_back l.first.items (shown_at l.shown.kept)

@@ -27,7 +27,7 @@ returns-in_err-take_record-in-Ok-clause-fault g c =
     c.loop-row.table c.in-Ok.row
     c.in_err-take_record-in-Ok.field-0.0 inv gave c.in_err-take_record-in-Ok.ensures.fault)
 
--- the fault where `csv` gives an error in place of a record
+-- the fault if `csv` returns an error instead of a record
 of_error : (g : Over) (c : After-drop-table-in-Err g)
     → IsOfCsv (joined_history c.args.sheet.now.history) c.args.bytes.now c.fault_of.result
 of_error g c =

@@ -13,7 +13,7 @@ returns-in-Ok c =
     ap is_some (sym (find_at pair_cmp pairs_total c.args.pair c.args.pairs.now c.requires c.in-Ok.field-0
     (c.args.pair, false) c.in-Ok.ensures.bound (here (c.args.pair, false))))
 
--- the pair isn't there
+-- the pair isn't one of the pairs
 pub returns-in-Err : goal.returns-in-Err
 returns-in-Err c =
     let rise = comparisons_rise pair_cmp pairs_total c.args.pair c.args.pairs.now c.requires in

@@ -20,7 +20,7 @@ few_members : (marks : List Bool) (members : List ℕ) → Marked marks members 
     → length members ≤ CELLS
 few_members marks members marked long = omega (arith, marked_le marks members marked, long)
 
--- a table that was lent whole and came back: it has what came back, a place for each cell
+-- a table that was passed as a whole slice: afterwards it has the items of that slice, one for each cell
 table : {X Z : Type 0} (v : Vec X Z) (lent new : List X) → length new ≡ length lent → length lent ≡ v.len
     → lent ≡ v.items → length v.items ≡ CELLS → ((with_items v new).items ≡ new) × (length new ≡ CELLS)
 table v lent new same whole is size = (with_items_is v new (same ∙ whole), same ∙ (ap length is ∙ size))
