@@ -5,8 +5,8 @@ use ps_wire::Decoder;
 /// A line that pushes a delta.
 const PUSH: &[u8] = b"push  [ [\"\\u00411\", [1,2,\"5\"],[], []] ] ";
 
-/// Whichever single allocation fails: a line that pushes is either refused as out of memory, or read. The same decoder
-/// then reads it. The line of a replica takes no memory.
+/// Whichever single allocation fails, a `push` line is either read or refused as out of memory. If it is refused, the
+/// same decoder reads it in a second call. Reading the line of a replica never allocates.
 #[test]
 fn refused_read_kept_line(rt: HostRuntime) {
     let alloc = rt.alloc();

@@ -23,7 +23,7 @@ pub all_begin : (h : List Entries) (list : List Note) (passes : List PassView) �
     → HistoryBegins h (history_of h list) passes
 all_begin h list passes b = λ k d lt. history_begins h _ list (b k d lt)
 
--- what is said of each pass that has ended, said of all
+-- what holds of each pass at its end holds of all passes together
 pub list_begins : (list : List Note) (passes : List PassView) → All (EndsAt list) passes → ListBegins list passes
 list_begins list passes ends = λ k d lt. (ends k d lt).0
 

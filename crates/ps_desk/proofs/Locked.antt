@@ -1,4 +1,4 @@
--- What lies under the lock after a change.
+-- What holds of the data that a desk's lock guards, after a change.
 use Rattle.std.proofs.Common.{◌≡◌, ◌+◌, ◌<◌, ◌^◌, ℕ, true, List, [], ◌∷◌, ◌++◌, length, map, refl, sym, ap, ◌∙◌}
 use Rattle.std.proofs.Common.{append_assoc, arith, length-append}
 use Rattle.std.proofs.lemmas.List.{length-map}
@@ -32,7 +32,7 @@ module _ (r : ℕ) (h : List Entries) (x : StagingView) (old : Published) (n : �
     total = lock.total ∙ ap length (sym list);
   }
 
-  -- a sheet in which the fresh change is made, that y has staged as well, once its patch is published and counted
+  -- a sheet z that has committed the fresh change, which y has staged, too, once its patch is published and counted
   pub appended_locked : (y : StagingView) (z : SheetView) (v : Assignment) (new : Published) (cells : List ℕ)
       (m seat : ℕ) → KeepsChange x y → (change_in x).fresh ≡ true
       → IsOf z y.replica (history_after (change_in y)) v
@@ -49,7 +49,7 @@ module _ (r : ℕ) (h : List Entries) (x : StagingView) (old : Published) (n : �
         total = omega (arith, lock.total, more, ap length last, length-append old.list (note ∷ []));
       }
 
-  -- one more can be counted, since the history with the change has a length of 64 bits
+  -- one more delta can be counted, since the length of the history with the change fits in 64 bits
   pub room_left : (number : ℕ) → IsWorkedOut (change_in x) → (change_in x).fresh ≡ true
       → number ≡ (change_in x).report.version → number < 2 ^ 64 → n + 1 < 2 ^ 64
   room_left number is fresh same lt =

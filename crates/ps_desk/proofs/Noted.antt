@@ -15,7 +15,7 @@ use Rattle.ps_face.specs.Legal.{Follows}
 use Rattle.ps_face.proofs.Noted.{prepared_follows}
 use Rattle.ps_desk.specs.Patches.{KeepsChange, change_in, no_change, note_of, shown_of}
 
--- what is said of the change that is there is said of `staged_in`
+-- what holds of the staged change holds of `staged_in`
 pub at_staged : (P : StagedView → Type 0) (o : Option StagedView) → IsSomeAnd o P → P (unwrap_or o no_change)
 at_staged P None h = absurd h
 at_staged P (Some p) h = h
@@ -32,7 +32,7 @@ staged_as x (Some p) there is = is
 pub worked_out : (x : StagingView) → is_some x.staged ≡ true → IsStaging x → IsWorkedOut (change_in x)
 worked_out x there is = staged_as x x.staged there is
 
--- the same change is staged where cells were listed
+-- the same change is staged after its cells were listed
 same_by : (o q : Option StagedView) → IsSomeAnd o (λ p. IsSomeAnd q (IsSameChange p))
     → IsSameChange (unwrap_or o no_change) (unwrap_or q no_change) × (is_some q ≡ true)
 same_by None q h = absurd h
@@ -61,7 +61,7 @@ keeps_itself x there = record {
   report = refl;
 }
 
--- cells with what they show are the changes of the cells
+-- the cells that changed, each with what it shows, are the changes of a patch
 firsts_of : (w : Assignment) (cells : List ℕ) → map (λ (e : ℕ × Value). e.0) (map (shown_of w) cells) ≡ cells
 firsts_of w [] = refl
 firsts_of w (c ∷ cells) = ap (λ xs. c ∷ xs) (firsts_of w cells)

@@ -1,4 +1,4 @@
--- Whose the patches of a list are.
+-- Which session slots made the patches of a list.
 use Rattle.std.proofs.Common.{◌≡◌, ◌≢◌, ◌+◌, ◌≤◌, ◌==◌, ℕ, suc, true, false, cond}
 use Rattle.std.proofs.Common.{List, [], ◌∷◌, ◌++◌, All, length, ap, arith, ⊎_elim, sym, subst, ◌∙◌}
 use Rattle.std.specs.Prelude.{sum_by}
@@ -11,7 +11,7 @@ use Rattle.ps_face.specs.declared.patch.Note.{Note}
 use Rattle.ps_desk.specs.Passes.{PassView, owned_by}
 use Rattle.ps_desk.specs.Closing.{AreOwned, OfOtherSeats}
 
--- a patch counts for its own seat alone
+-- a patch counts only for its own slot
 abbrev pub counts : ℕ → Note → ℕ
 counts seat p = cond (p.owner == seat) 1 0
 
@@ -24,7 +24,7 @@ owned_push seat xs p is =
     let one : counts seat p ≡ 1 = ap (λ b. cond b 1 0) (eq-eqb p.owner seat is) in
     omega (arith, sum_by_push (counts seat) xs p, one)
 
--- a pass that has seen one patch more, of its seat, may count it
+-- a pass that has seen one more patch, of its own slot, may count that patch
 pub owned_next : (old new : PassView) (list : List Note) (patch : Note) → new ≡ record old { list = list }
     → list ≡ old.list ++ patch ∷ [] → patch.owner ≡ old.seat → old.appended ≤ owned_by old.seat old.list
     → new.appended + 1 ≤ owned_by new.seat new.list
@@ -51,7 +51,7 @@ module _ {X : Type 0} (f g : X → ℕ) where
       let rest = sums_less xs (All-tail (λ y. f y ≤ g y) x xs less) in
       omega (arith, one, rest, sum_by-cons f x xs, sum_by-cons g x xs)
 
-  -- numbers that are no more, one by one, and no less together, are the same
+  -- if each f x is at most g x, and the sum of f is at least that of g, f x and g x are the same for each x
   none_less : (xs : List X) → All (λ x. f x ≤ g x) xs → sum_by g xs ≤ sum_by f xs → All (λ x. g x ≡ f x) xs
   none_less [] less whole = λ k d lt. absurd (omega arith)
   none_less (x ∷ xs) less whole =
@@ -63,7 +63,7 @@ module _ {X : Type 0} (f g : X → ℕ) where
       All-cons (λ y. g y ≡ f y) x xs (omega (arith, one, rest, both, above, whole))
       (none_less xs others (omega (arith, one, both, above, whole)))
 
--- of passes of which no two are of one seat, one patch counts for one at most
+-- if no two passes have the same slot, a patch counts for at most one pass
 module _ (patch : Note) where
   marks : PassView → ℕ
   marks p = counts p.seat patch
@@ -95,7 +95,7 @@ module _ (patch : Note) where
       omega (arith, both, none, marked_once passes rest))
       (eqb_tells patch.owner p.seat)
 
--- so the patches of all seats together are no more than the list
+-- so the patches of all slots together are no more than the list has
 owned_within : (list : List Note) (passes : List PassView) → OfOtherSeats passes
     → sum_by (λ p. owned_by p.seat list) passes ≤ length list
 owned_within [] passes apart = omega (arith, sum_by-le (λ p. owned_by p.seat []) 0 passes (λ k d lt. omega arith))
@@ -105,7 +105,7 @@ owned_within (patch ∷ list) passes apart =
     let both = sums_both (λ p. counts p.seat patch) (λ p. owned_by p.seat list) passes in
     omega (arith, split, both, marked_once patch passes apart, owned_within list passes apart)
 
--- so each pass appended all patches of its seat
+-- so each pass appended all patches of its slot
 pub all_owned : (list : List Note) (passes : List PassView) → All (λ p. p.appended ≤ owned_by p.seat list) passes
     → length list ≡ sum_by (λ p. p.appended) passes → OfOtherSeats passes → AreOwned list passes
 all_owned list passes counted grown apart =

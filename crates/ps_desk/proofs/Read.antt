@@ -1,4 +1,4 @@
--- What a read shows of the values of all cells in order.
+-- What a read shows, given the values of all cells in order.
 use Rattle.std.proofs.Common.{◌≡◌, ℕ, ◌+◌, ◌<◌, ◌≤◌, List, [], ◌∷◌, ◌++◌, length, take, sym, ap, ◌∙◌, arith}
 use Rattle.std.proofs.lemmas.List.{length-set, take_all, take_more, take_more_set}
 use Rattle.std.specs.Prelude.{slice_index_or, slice_set}
@@ -16,7 +16,7 @@ pub shown_one : (h : List Entries) (values : List Value) (c : ℕ) (x : Value) �
 shown_one h values c x s below is =
     (s.0, s.1, is ∙ ap (λ (vs : List Value). slice_index_or vs c Empty) s.2 ∙ get-listed s.0 CELLS c Empty below)
 
--- the values up to a place, after one more is written
+-- the values up to a position, after one more is written
 pub one_more : (all values : List Value) (i : ℕ) (x : Value) → i < length values → length all ≡ CELLS
     → (length values ≡ CELLS) × (take i values ≡ take i all) → x ≡ slice_index_or all i Empty
     → (length (slice_set values i x) ≡ CELLS) × (take (i + 1) (slice_set values i x) ≡ take (i + 1) all)

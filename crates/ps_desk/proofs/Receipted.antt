@@ -1,4 +1,4 @@
--- What a receipt tells stays told of a list that was seen earlier.
+-- What a receipt says stays true if less of the list had been seen before.
 use Rattle.std.proofs.Common.{◌≡◌, ℕ, Bool, true, false, List, [], ◌∷◌, ◌++◌, length, sym, ap, ◌∙◌}
 use Rattle.std.proofs.Common.{◌+◌, ◌⊎◌, inl, subst, refl, Result, Ok, ⊎_elim, arith, length-append}
 use Rattle.std.specs.Prelude.{IsOk, MatchBool, if◌then◌else◌}
@@ -24,7 +24,7 @@ on_both : (b : Bool) (P Q R S : Type 0) → (P → R) → (Q → S) → MatchBoo
 on_both true P Q R S f g m = f m
 on_both false P Q R S f g m = g m
 
--- where more had been seen, and less is asked of the delta
+-- a receipt over `mid` is one over `seen`, a beginning of `mid`, and with a weaker claim about the delta
 tells_more : (M N : State → Entries → Type 0) (h : List Entries) (seen mid now : List Note) (seat : ℕ) (r : ReceiptView)
     → ((s : State) (d : Entries) → M s d → N s d) → IsPrefix seen mid → IsReceipt M h mid now seat r
     → IsReceipt N h seen now seat r
@@ -49,7 +49,7 @@ tells_more M N h seen mid now seat r weaker later t =
     })
     t
 
--- a change that isn't fresh has a delta below the state, and leaves the history
+-- the delta of a change that isn't fresh is below the state
 below_state : (p : PreparedView) → IsWorkedOut p → p.fresh ≡ false
     → IsBelow (state_of p.delta) (joined_history p.history)
 below_state p is idle =
@@ -58,7 +58,7 @@ below_state p is idle =
 pub history_kept : (p : PreparedView) → p.fresh ≡ false → history_after p ≡ p.history
 history_kept p idle = ap (λ b. if b then (p.history ++ p.delta ∷ []) else p.history) idle
 
--- what a fresh receipt tells
+-- what a fresh receipt says
 pub tells_appended : (h : List Entries) (p : PreparedView) (seen now : List Note) (seat : ℕ) (r : ReceiptView)
     → IsWorkedOut p → p.fresh ≡ true → p.history ≡ history_of h seen → IsNoted p seat seen now
     → r.number ≡ p.report.version → r.delta ≡ p.delta
@@ -82,7 +82,7 @@ tells_appended h p seen now seat r is fresh history noted number delta = record 
   made = (ap joined_history (sym history), delta);
 }
 
--- what another receipt tells
+-- what a receipt that isn't fresh says
 pub tells_included : (h : List Entries) (p : PreparedView) (seen : List Note) (seat : ℕ) (r : ReceiptView)
     → IsWorkedOut p → p.fresh ≡ false → p.history ≡ history_of h seen → r.number ≡ p.report.version
     → r.delta ≡ p.delta → r.fresh ≡ false
@@ -96,7 +96,7 @@ tells_included h p seen seat r is idle history number delta old =
       made = (ap joined_history (sym history), delta);
     })
 
--- what a pass that was told of a list has seen begins with what it had seen, and its seat stays
+-- a pass that catches up with a list has seen all that it had seen, and keeps its slot
 module _ (list : List Note) (old new : PassView) where
   pub caught_later : IsPrefix old.list list → new ≡ record old { list = list } → IsPrefix old.list new.list
   caught_later later is = subst (IsPrefix old.list) (sym (ap (λ (q : PassView). q.list) is)) later
@@ -104,7 +104,7 @@ module _ (list : List Note) (old new : PassView) where
   pub caught_seat : new ≡ record old { list = list } → new.seat ≡ old.seat
   caught_seat is = ap (λ (q : PassView). q.seat) is
 
--- what a pass has seen that caught up with a legal list
+-- `Took` holds for a pass that catches up with a legal list
 pub took_caught : (h : List Entries) (old new : PassView) (list : List Note) → IsPrefix old.list list
     → new ≡ record old { list = list } → IsLegal h list → Took h old new
 took_caught h old new list later is legal = record {
@@ -113,7 +113,7 @@ took_caught h old new list later is legal = record {
   same = (caught_seat list old new is, ap (λ (q : PassView). q.enters) is);
 }
 
--- .. and then was told of more
+-- .. and then sees more of the list
 pub took_more : (h : List Entries) (old mid new : PassView) → Took h old mid → IsPrefix mid.list new.list
     → IsLegal h new.list → (new.seat ≡ mid.seat) × (new.enters ≡ mid.enters) → Took h old new
 took_more h old mid new took later legal same = record {
@@ -122,7 +122,7 @@ took_more h old mid new took later legal same = record {
   same = (same.0 ∙ took.same.0, same.1 ∙ took.same.1);
 }
 
--- what is told of a prepared change is told of the change
+-- what the receipt of a prepared change says holds for the change
 pub made_change : {X : Type 0} (tells : X → Entries → Type 0) (r : ℕ) (h : List Entries) (change : Change)
     (p : PreparedView) (number : ℕ) (enclosed : X) (fresh : Bool) (old mid new : PassView)
     → IsPrefix old.list mid.list → mid.seat ≡ old.seat → mid.appended ≡ old.appended → IsDelta p.delta

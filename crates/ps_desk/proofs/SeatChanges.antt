@@ -1,4 +1,4 @@
--- What a change at a desk answers a seat, and what it leaves of the pass.
+-- What a change at a desk answers a `Seat`, and how it alters the pass.
 use Rattle.std.proofs.Common.{◌≡◌, ◌⊎◌, inl, inr, ap, arith, ℕ, ◌+◌, ◌≤◌, Bool, List, Ok, Err, ⊎_elim, refl}
 use Rattle.std.specs.Prelude.{IsOk, if◌then◌else◌}
 use Rattle.ps_grid.specs.declared.refusal.Refusal.{Refusal}
@@ -35,7 +35,7 @@ module _ (r : ℕ) (h : List Entries) (old new : PassView) (took : Took h old ne
     goes (omega (arith, counted)),
   )
 
-  -- an edit that was not
+  -- an edit that was refused
   pub unedited : (edit : Edit) (e : Refusal) → new.appended ≡ old.appended
       → (e ≡ refusals.Memory) ⊎ (delta_of_edit r (joined_history (history_of h new.list)) edit ≡ Err e)
       → (e ≡ refusals.Memory → IsOk (delta_of_edit r (joined_history (history_of h new.list)) edit))

@@ -1,4 +1,4 @@
--- What a session at a desk does with a line is the answer to the line.
+-- What a session at a desk does with a line is the line's answer (`SeatAnswers`).
 use Rattle.std.proofs.Common.{◌⊎◌, ◌∙◌, inl, inr, refl, ap, sym, subst, arith, max, length, ℕ, ◌<◌, List, Ok, Err}
 use Rattle.std.specs.Prelude.{unwrap_or}
 use Rattle.ps_grid.specs.declared.refusal.Refusal.{Refusal}
@@ -57,12 +57,12 @@ module _ (r : ℕ) (h : List Entries) where
     })
   ]
 
-  -- what a line is done, or nothing for want of memory
+  -- what the line asks for is done, or memory ran out
   abbrev Does : Read Command → PassView → List ℕ → PassView → Type 0
   Does asked old text new =
       SeatObeys r h asked old text new ⊎ IsLacking (TakesMemory r (history_of h new.list) asked) old text new
 
-  -- a pull of one delta at least was answered or refused, and the reply tells of it
+  -- the reply to a pull follows from the deltas, at least one, or the refusal that the call returned
   pulled : (old new : PassView) (from most : ℕ) (text : List ℕ) (answer : Read (List Entries))
       → SeatPulls h old from (max most 1) answer new → HandsOn from most answer text
       → IsHandedOut h from most old text new
@@ -95,7 +95,7 @@ module _ (r : ℕ) (h : List Entries) where
   went old new from most (Ok deltas) call = call.1
   went old new from most (Err refusal) call = call.1
 
-  -- the calls of a seat make its answer to a line
+  -- the calls of a `Seat` make its answer to a line
   answer_of : (old new : PassView) (line text : List ℕ) (asked : Read Command) → ReadsLine line asked
       → Obeyed (SeatCalls r h) old asked text new → SeatAnswers r h old line text new
   answer_of old new line text (Ok (Edit edit)) reads did =

@@ -1,6 +1,6 @@
--- What the lines of a session leave of its pass. A caller of `talk` on a seat has it by `talked` of
--- `Rattle.ps_session.proofs.Runs`, whatever the session came to: with `h` and `r` the opening history and the replica
--- of the desk's name,
+-- A whole session goes on from what its pass had seen. A caller of `talk` with a `Seat` gets this fact by `talked` of
+-- `Rattle.ps_session.proofs.Runs`, even if the session failed. With `h` and `r` as the opening history and the replica
+-- of the desk's name:
 --
 --     let told = c.talk.ensures in
 --     let more : GoesOn c.new-seat.result c.talk.new.board =

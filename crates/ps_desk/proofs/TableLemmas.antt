@@ -1,4 +1,4 @@
--- The table of a rectangle, made of a copy of its cells.
+-- The table of a rectangle, written from a copy of its cells.
 use Rattle.std.proofs.Common.{◌≡◌, ◌+◌, ◌<◌, ℕ, true, List, [], map, ap, ◌∙◌, arith, inl, inr, Result, Ok, Err}
 use Rattle.std.specs.Global.{Vec}
 use Rattle.std.specs.Prelude.{IfErr, IfOk, slice_index_or}
@@ -59,7 +59,7 @@ module _ (t u : CellTexts) (a : Area) (in_grid : LiesInGrid a) (same : SameIn a 
   unfolding row_records
   table_same = ap table_text (map_same (row_record t a) (row_record u a) a.height record_same)
 
--- so what shows the same in it, or holds the same, gives the same table
+-- so two assignments that agree in the rectangle give the same table
 exported_same : (v w : Assignment) (a : Area) → LiesInGrid a → SameIn a v w → exported v a ≡ exported w a
 exported_same v w a in_grid same =
     table_same (λ c. shown_text (v c)) (λ c. shown_text (w c)) a in_grid (λ c inside. ap shown_text (same c inside))
@@ -69,7 +69,7 @@ pub entries_same : (f g : Holdings) (a : Area) → LiesInGrid a → SameIn a f g
 entries_same f g a in_grid same =
     table_same (entry_text f) (entry_text g) a in_grid (λ c inside. ap canonical_text (same c inside))
 
--- what shows the same as a list of the values in order gives the table of what they are the values of
+-- an assignment w that agrees in the rectangle with the listed values of v gives the table of v
 pub table_of_values : (v w : Assignment) (values : List Value) (a : Area) → LiesInGrid a → values ≡ in_order v
     → SameIn a w (λ c. slice_index_or values c Empty) → exported w a ≡ exported v a
 table_of_values v w values a in_grid is same =
@@ -77,8 +77,8 @@ table_of_values v w values a in_grid is same =
     (λ c inside. same c inside ∙ ap (λ (vs : List Value). slice_index_or vs c Empty) is
     ∙ get-listed v CELLS c Empty (is_inside-below a c in_grid inside))
 
--- what a look that makes a table comes to, where the list is `new.list`, these are the values in order, and the table
--- is of what shows the same in the rectangle
+-- what `Pass::table` promises, if `values` are the values after the list `new.list`, and the table is that of an
+-- assignment w that agrees with them in the rectangle
 pub tabled : (h : List Entries) (old new : PassView) (a : Area) (values : List Value) (w : Assignment)
     (made : Result (Vec ℕ) Refusal)
     → LiesInGrid a → IsLegal h new.list → Shows (history_of h new.list) values

@@ -8,14 +8,14 @@ use Rattle.ps_csv.specs.Exports.{Holdings}
 use Rattle.ps_desk.specs.declared.copied.CopiedContents.{CopiedContents}
 use Rattle.ps_desk.specs.declared.copied.CopiedValues.{CopiedValues}
 
--- SAME IN: both have the same for each cell of a rectangle
+-- SAME IN: both functions agree on each cell of the rectangle
 abbrev pub SameIn : {A : Type 0} → Area → (ℕ → A) → (ℕ → A) → Type 0
 SameIn a f g = (c : ℕ) → is_inside a c ≡ true → f c ≡ g c
 
--- what a copy shows for each cell; nothing beyond its end
+-- what a copy shows for each cell of its rectangle; `Empty` beyond the end of its list
 abbrev pub shows_in : CopiedValues → Assignment
 shows_in copy c = slice_index_or copy.values.items (place_of copy.rect c) Empty
 
--- what a copy holds for each cell; nothing beyond its end
+-- what a copy holds for each cell of its rectangle; `Blank` beyond the end of its list
 abbrev pub holds_in : CopiedContents → Holdings
 holds_in copy c = slice_index_or copy.contents.items (place_of copy.rect c) Blank

@@ -7,8 +7,8 @@ use Rattle.ps_cells.specs.Settled.{IsSettled}
 use Rattle.ps_face.specs.declared.patch.Note.{Note}
 use Rattle.ps_face.specs.declared.rule.View.{View}
 
--- the beginning of the published list that was seen, how often a copy was entered, how many deltas this pass appended,
--- and its seat
+-- a pass: the beginning of the published list that its session has seen, how often it entered a published copy, how
+-- many deltas it appended, and its session slot
 pub record PassView : Type 0 where
   pub list : List Note
   pub enters : ℕ
@@ -20,23 +20,23 @@ abbrev pub seen_by : Option View → List Note
 seen_by (Some v) = v.list
 seen_by None = []
 
--- how often a reader has entered
+-- how often a reader has entered a published copy
 abbrev pub entered : Option View → ℕ
 entered (Some v) = v.enters
 entered None = 0
 
--- how many patches of the list were made by the calls of this seat
+-- how many patches of the list were made by calls of this session slot
 abbrev pub owned_by : ℕ → List Note → ℕ
 owned_by seat list = count_by (λ p. p.owner == seat) list
 
--- what holds of a pass between two calls: its reader is there, its share of the ledger is one part, with the amount
--- that the pass counted, and the list that it has seen has that many patches of its seat, or more
+-- what holds of a pass between two calls: its reader is present, and its share of the ledger is one part, with the
+-- amount that the pass counted. The list that it has seen has at least so many patches of its slot
 pub record IsPass (reader : Option View) (parts amount count seat : ℕ) : Type 0 where
   pub here : IsSome reader
   pub part : parts ≡ 1
   pub same : amount ≡ count
   pub owned : count ≤ owned_by seat (seen_by reader)
 
--- SHOWN: the value is the cell's settled value of the joined history
+-- SHOWN: x is the settled (fully recalculated) value of the cell c after the history h
 abbrev pub IsShown : List Entries → ℕ → Value → Type 0
 IsShown h c x = (v : Assignment) × IsSettled (joined_history h) v × (x ≡ v c)

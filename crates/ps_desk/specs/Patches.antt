@@ -7,7 +7,7 @@ use Rattle.ps_sheet.specs.Prepared.{PreparedView}
 use Rattle.ps_sheet.specs.Staging.{StagedView, StagingView, prepared_of}
 use Rattle.ps_face.specs.declared.patch.Note.{Note}
 
--- a change of nothing
+-- a change that changes nothing
 abbrev pub no_change : StagedView
 no_change = record {
   delta = [];
@@ -18,11 +18,11 @@ no_change = record {
   report = record { version = 0; evaluated = 0; cyclic = 0; levels = 0 };
 }
 
--- the change that is staged in a sheet, or a change of nothing
+-- the change that is staged in a sheet, or `no_change` if none is
 abbrev pub staged_in : StagingView → StagedView
 staged_in x = unwrap_or x.staged no_change
 
--- .. with the sheet before it and after it
+-- the same change, together with the sheet before it and after it
 abbrev pub change_in : StagingView → PreparedView
 change_in x = prepared_of x (staged_in x)
 
@@ -30,12 +30,12 @@ change_in x = prepared_of x (staged_in x)
 abbrev pub shown_of : Assignment → ℕ → ℕ × Value
 shown_of v c = (c, v c)
 
--- the cells that show another value after the change, as they were found: one alone, or those that are listed
+-- the cells that show another value after the change: the one that was returned, or those that the sheet listed
 abbrev pub found_in : StagingView → Option ℕ → List ℕ
 found_in x (Some c) = c ∷ []
 found_in x None = (staged_in x).changed
 
--- the patch of the staged change: these cells with what they show afterwards, by a call of this seat
+-- the patch of the staged change, by a call of this session slot: it has these cells with what they show afterwards
 abbrev pub note_of : StagingView → List ℕ → ℕ → Note
 note_of x cells seat = record {
   number = (staged_in x).report.version;
@@ -53,7 +53,7 @@ pub record KeepsChange (x y : StagingView) : Type 0 where
   pub fresh : (staged_in y).fresh ≡ (staged_in x).fresh
   pub report : (staged_in y).report ≡ (staged_in x).report
 
--- NOTED: the list `now` is `seen` with one more patch, which is of this change and by a call of this seat
+-- NOTED: the list `now` is `seen` with one more patch, which has this change and this session slot
 pub record IsNoted (p : PreparedView) (seat : ℕ) (seen now : List Note) : Type 0 where
   pub patch : Note
   pub last : now ≡ seen ++ patch ∷ []

@@ -1,5 +1,5 @@
--- How a session at a desk answers a line. The answer depends on the replica r and the opening history h, which the
--- desk's name has, and on the session's pass before and after the line, as contracts see it.
+-- How a session at a desk answers a line. The answer depends on two members of the desk's name, the replica r and the
+-- opening history h. It also depends on the session's pass before and after the line, as contracts see it.
 use Rattle.std.specs.Prelude.{◌≡◌, ◌≢◌, ◌⊎◌, ℕ, ◌+◌, ◌<◌, ◌≤◌, ⊤, List, Ok, Err, IsOk, if◌then◌else◌, unwrap_or}
 use Rattle.std.specs.Prelude.{drop, length, take}
 use mathlib.Core.List.{IsPrefix}
@@ -29,8 +29,8 @@ use Rattle.ps_lines.specs.declared.command.Command.TheVariants.{Pull, Push, Repl
 use Rattle.ps_desk.specs.Passes.{PassView}
 use Rattle.ps_desk.specs.Receipts.{IsAppended, IsReceipt, ReceiptView, merged_of}
 
--- an edit was made: the list ends with a patch of this seat, which has the edit's delta over all before it, and the
--- reply has its number
+-- an edit was made: the list ends with a patch of this session slot. The patch has the edit's delta over all before it,
+-- and the reply has the patch's number
 pub record IsEdited (r : ℕ) (h : List Entries) (edit : SheetEdit) (old : PassView) (text : List ℕ) (new : PassView) :
     Type 0 where
   pub legal : IsLegal h new.list
@@ -40,7 +40,7 @@ pub record IsEdited (r : ℕ) (h : List Entries) (edit : SheetEdit) (old : PassV
   pub counted : new.appended ≡ old.appended + 1
   pub entered : new.enters ≡ old.enters
 
--- an edit has no delta over all that is published
+-- an edit was refused: it has no delta over the whole published history
 pub record IsRefused (r : ℕ) (h : List Entries) (edit : SheetEdit) (old : PassView) (text : List ℕ) (new : PassView) :
     Type 0 where
   pub legal : IsLegal h new.list
@@ -50,8 +50,8 @@ pub record IsRefused (r : ℕ) (h : List Entries) (edit : SheetEdit) (old : Pass
   pub counted : new.appended ≡ old.appended
   pub entered : new.enters ≡ old.enters
 
--- the published copies were entered once: the list is legal, and the reply follows from the settled values of the
--- history that it stands for
+-- the published copies were read once: the list is legal, and the reply follows from the settled values of the history
+-- that the list stands for
 pub record IsLook (h : List Entries) (reply : Assignment → List ℕ) (old : PassView) (text : List ℕ) (new : PassView) :
     Type 0 where
   pub legal : IsLegal h new.list
@@ -61,13 +61,13 @@ pub record IsLook (h : List Entries) (reply : Assignment → List ℕ) (old : Pa
   pub counted : new.appended ≡ old.appended
   pub entered : new.enters ≡ old.enters + 1
 
--- the copies are gone, and nothing was read
+-- the published copies are gone, and nothing was read
 pub record IsGone (old : PassView) (text : List ℕ) (new : PassView) : Type 0 where
   pub told : text ≡ refusal_text refusals.Seat
   pub same : new.list ≡ old.list
   pub counted : new.appended ≡ old.appended
 
--- the reply follows from what the cells hold after the history of all that is published
+-- the reply follows from what the cells hold after the whole published history
 pub record IsHeld (h : List Entries) (reply : Holdings → List ℕ) (old : PassView) (text : List ℕ) (new : PassView) :
     Type 0 where
   pub legal : IsLegal h new.list
@@ -75,7 +75,7 @@ pub record IsHeld (h : List Entries) (reply : Holdings → List ℕ) (old : Pass
   pub counted : new.appended ≡ old.appended
   pub entered : new.enters ≡ old.enters
 
--- the reply has deltas of all that is published
+-- the reply answers a pull from the whole published history
 pub record IsHandedOut (h : List Entries) (from most : ℕ) (old : PassView) (text : List ℕ) (new : PassView) : Type 0
   where
     pub legal : IsLegal h new.list
@@ -93,8 +93,8 @@ pub record IsTakenIn (h : List Entries) (delta : Entries) (old : PassView) (text
     pub counted : new.appended ≡ old.appended + (if receipt.fresh then 1 else 0)
     pub entered : new.enters ≡ old.enters
 
--- a delta was merged: what is new in it was appended, or nothing is and it is included. The reply says which of the
--- two, and has the receipt's number
+-- a delta was merged: its new part was appended, or it had nothing new. The reply says which, and has the receipt's
+-- number
 pub record IsMergedIn (h : List Entries) (delta : Entries) (old : PassView) (text : List ℕ) (new : PassView) : Type 0
   where
     pub legal : IsLegal h new.list
@@ -104,14 +104,14 @@ pub record IsMergedIn (h : List Entries) (delta : Entries) (old : PassView) (tex
     pub counted : new.appended ≡ old.appended + (if receipt.fresh then 1 else 0)
     pub entered : new.enters ≡ old.enters
 
--- the changes were counted: the history of all that is published has this number of them
+-- the changes were counted: the whole published history has this number of them
 pub record IsCounted (h : List Entries) (number : ℕ) (old new : PassView) : Type 0 where
   pub legal : IsLegal h new.list
   pub all : number ≡ length (history_of h new.list)
   pub counted : new.appended ≡ old.appended
   pub entered : new.enters ≡ old.enters
 
--- what a session does where a line asks for this: the reply, and its pass afterwards
+-- what a session does with a line that is read so: the reply, and the session's pass afterwards
 abbrev pub SeatObeys : ℕ → List Entries → Read Command → PassView → List ℕ → PassView → Type 0
 SeatObeys r h (Ok (Edit edit)) old text new = IsEdited r h edit old text new ⊎ IsRefused r h edit old text new
 SeatObeys r h (Ok (Get cell)) old text new = IsLook h (λ v. value_text (v cell)) old text new ⊎ IsGone old text new
@@ -129,19 +129,19 @@ SeatObeys r h (Ok (Wait seen)) old text new =
     (number : ℕ) × IsCounted h number old new × (text ≡ version_text number)
 SeatObeys r h (Err refusal) old text new = (new ≡ old) × (text ≡ refusal_text refusal)
 
--- out of memory, where the request takes memory; nothing was appended
+-- memory ran out for a request that takes memory, and nothing was appended
 pub record IsLacking (takes : Type 0) (old : PassView) (text : List ℕ) (new : PassView) : Type 0 where
   pub some : takes
   pub told : text ≡ refusal_text refusals.Memory
   pub counted : new.appended ≡ old.appended
 
--- GOES ON: what a pass has seen begins with what it had seen, it appended no less, and it is of the same seat
+-- GOES ON: what a pass has seen begins with what it had seen, it appended no less, and it has the same slot
 pub record GoesOn (old new : PassView) : Type 0 where
   pub later : IsPrefix old.list new.list
   pub appended : old.appended ≤ new.appended
   pub seat : new.seat ≡ old.seat
 
--- deltas were pulled: those of all that is published after a number that isn't beyond its end, at most so many
+-- deltas were pulled: at most `most` of the whole published history, after its first `from`, which it has
 pub record IsPulled (h : List Entries) (from most : ℕ) (deltas : List Entries) (old new : PassView) : Type 0 where
   pub legal : IsLegal h new.list
   pub there : from ≤ length (history_of h new.list)
@@ -149,7 +149,7 @@ pub record IsPulled (h : List Entries) (from most : ℕ) (deltas : List Entries)
   pub counted : new.appended ≡ old.appended
   pub entered : new.enters ≡ old.enters
 
--- a pull was refused: the number is beyond the end of all that is published, or memory ran out before that end
+-- a pull was refused: the whole published history has fewer than `from` deltas, or memory ran out and it has more
 pub record IsUnpulled (h : List Entries) (from : ℕ) (refusal : Refusal) (old new : PassView) : Type 0 where
   pub legal : IsLegal h new.list
   pub cause : ((refusal ≡ refusals.Version) × (length (history_of h new.list) < from))
@@ -157,7 +157,7 @@ pub record IsUnpulled (h : List Entries) (from : ℕ) (refusal : Refusal) (old n
   pub counted : new.appended ≡ old.appended
   pub entered : new.enters ≡ old.enters
 
--- what the calls of a seat answer; each goes on from what the pass had seen
+-- what each call of a `Seat` answers; each goes on from what the pass had seen
 abbrev pub SeatEdits : ℕ → List Entries → PassView → SheetEdit → Read ℕ → PassView → Type 0
 SeatEdits r h old edit answer new =
     ((IsEdited r h edit old (told done_text answer) new ⊎ IsRefused r h edit old (told done_text answer) new)
@@ -208,7 +208,7 @@ SeatPulls h old from most (Err refusal) new = IsUnpulled h from refusal old new 
 abbrev pub SeatWaits : List Entries → PassView → ℕ → ℕ → PassView → Type 0
 SeatWaits h old seen number new = IsCounted h number old new × GoesOn old new
 
--- the answer is the desk's replica, without a wait or a look
+-- the answer is the desk's replica, and the pass stays the same
 abbrev pub SeatReplica : ℕ → PassView → ℕ → PassView → Type 0
 SeatReplica r old number new = (number ≡ r) × (new ≡ old)
 
@@ -226,7 +226,7 @@ SeatCalls r h = record {
   replica = SeatReplica r;
 }
 
--- a line does what it asks for
+-- a line was read and answered, and memory was enough
 pub record SeatServes (r : ℕ) (h : List Entries) (old : PassView) (line text : List ℕ) (new : PassView) : Type 0 where
   pub asked : Read Command
   pub reads : ReadsLine line asked
@@ -234,8 +234,8 @@ pub record SeatServes (r : ℕ) (h : List Entries) (old : PassView) (line text :
   pub obeys : SeatObeys r h asked old text new
   pub goes_on : GoesOn old new
 
--- out of memory, a line appends nothing. Reading it takes memory, or its request does over all that the pass has then
--- seen
+-- memory ran out for a line, and nothing was appended. Reading the line takes memory, or its request does, over all
+-- that the pass has then seen
 pub record SeatLacksMemory (r : ℕ) (h : List Entries) (old : PassView) (line text : List ℕ) (new : PassView) : Type 0
   where
     pub asked : Read Command
@@ -247,6 +247,6 @@ pub record SeatLacksMemory (r : ℕ) (h : List Entries) (old : PassView) (line t
 abbrev pub SeatAnswers : ℕ → List Entries → Answering PassView
 SeatAnswers r h old line text new = SeatServes r h old line text new ⊎ SeatLacksMemory r h old line text new
 
--- .. and a line as it stands between line feeds
+-- .. given the bytes of the line between line feeds
 abbrev pub SeatLines : ℕ → List Entries → Answering PassView
 SeatLines r h = Lines (SeatAnswers r h)

@@ -1,4 +1,4 @@
-//! Publishing a staged change and making it, or cancelling it.
+//! Publishes a staged change and commits it, or cancels it.
 
 ghost use Rattle.std.specs.Prelude.{◌≡◌, ◌+◌, ◌<◌, ◌^◌, ◌++◌, ◌∷◌, [], true, None, if◌then◌else◌, is_some};
 ghost use Rattle.std.specs.Prelude.{IfOk, IfErr, OnOk, OnErr};
@@ -30,7 +30,7 @@ use std::alloc::Global;
 use std::sync::Wait;
 use std::sync::ledger::Book;
 
-/// Shows all waiting changes to readers, if the next change is shown at once.
+/// Shows all waiting changes to readers, if the next change is to be shown at once.
 #[inline(always)]
 pub(crate) fn make_way<L: DeskName, W: Wait + Drop>(copies: &mut FaceWriter<L, W>, showing: Showing)
     ensures list { copies.new.list ≡ copies.old.list }
@@ -65,8 +65,8 @@ pub(crate) fn note_shown<L: DeskName, W: Wait + Drop, V: Wait>(
     }
 }
 
-/// Publishes the staged change and makes it, or cancels it when out of memory. Nothing is staged afterwards. A change
-/// that adds nothing new is made without a patch.
+/// Publishes the staged change and commits it, or cancels it when out of memory. Nothing is staged afterwards. A change
+/// that adds nothing new is committed without a patch.
 #[inline(always)]
 pub(crate) fn finish<L: DeskName, W: Wait + Drop, V: Wait>(
     wait: &V,
@@ -113,8 +113,8 @@ pub(crate) fn finish<L: DeskName, W: Wait + Drop, V: Wait>(
     })
 }
 
-/// Publishes a fresh change and makes it, or cancels it when out of memory. Returns the number of its delta in the
-/// history.
+/// Publishes a fresh change and commits it, or cancels it when out of memory. Returns the number of the change's delta
+/// in the history.
 #[inline(always)]
 fn append<L: DeskName, W: Wait + Drop, V: Wait>(
     wait: &V,
@@ -161,8 +161,8 @@ fn append<L: DeskName, W: Wait + Drop, V: Wait>(
     }
 }
 
-/// Finds the cells that show another value after the staged change. Returns the cell where there is only one, and lists
-/// the cells in the sheet otherwise.
+/// Finds the cells that show another value after the staged change. Returns the cell if the sheet knows at once that
+/// there is only one. Otherwise it returns none, and the sheet lists the cells.
 #[inline(always)]
 fn find_changed(sheet: &mut Staging) -> Option<Cell>
     requires staged { is_some sheet.old.staged ≡ true }
@@ -177,9 +177,9 @@ fn find_changed(sheet: &mut Staging) -> Option<Cell>
     None
 }
 
-/// Adds the patch of the staged fresh change to the published list, and shows it to readers, at once or later. The
-/// patch has the slot `owner`. Returns the patch's number. Fails only when out of memory, and then nothing is
-/// published.
+/// Adds the patch of the staged fresh change to the published list, and returns the patch's number. Readers are shown
+/// the patch at once or later. `owner` is the session slot that made the change. Fails only when out of memory, and
+/// then nothing is published.
 #[inline(always)]
 fn tell<L: DeskName, W: Wait + Drop>(
     alloc: Global,
@@ -210,7 +210,7 @@ fn tell<L: DeskName, W: Wait + Drop>(
     Ok(number)
 }
 
-/// Adds a patch to the published list, and shows it to readers, at once or later. Fails only when out of memory, and
+/// Adds a patch to the published list. Readers are shown the patch at once or later. Fails only when out of memory, and
 /// then nothing is published.
 #[inline(always)]
 fn publish<L: DeskName, W: Wait + Drop>(
@@ -235,7 +235,8 @@ fn publish<L: DeskName, W: Wait + Drop>(
     }
 }
 
-/// Returns one more owner of a delta. It retries while a shared part of the delta has as many owners as can be counted.
+/// Returns a second owner of a delta. It tries again until no shared part of the delta has as many owners as can be
+/// counted.
 pub(crate) fn share<V: Wait>(wait: &V, alloc: Global, delta: &Delta) -> Delta
     ensures { result ≡ delta.now }
 {

@@ -16,11 +16,12 @@ use std::sync::Wait;
 use std::sync::ledger::Share;
 
 impl<L: DeskName, W: Wait + Drop> Desk<L, W> {
-    /// Ends the desk, and returns its sheet, given the passes of all slots.
+    /// Ends the desk, and returns its sheet. `passes` has the passes of all slots.
     ///
-    /// The history begins with what each pass stands for. Since the desk was opened it has grown by exactly what the
-    /// passes appended. For each slot it has as many deltas as the slot's pass appended, which are those of its fresh
-    /// receipts. So each added delta belongs to exactly one of them, and stands at its number.
+    /// The sheet's history begins with all that each pass has seen. Since the desk was opened, it has grown by exactly
+    /// what the passes appended. If no two passes have the same slot, it has as many new deltas of each slot as the
+    /// slot's pass appended. So each new delta belongs to exactly one fresh [`crate::Receipt`], and has the receipt's
+    /// number in the history.
     ///
     /// Cost: that of freeing the published copies.
     pub fn close<V: Wait>(self, wait: &V, passes: Vec<Pass<L>>) -> Sheet
@@ -35,8 +36,8 @@ impl<L: DeskName, W: Wait + Drop> Desk<L, W> {
         sheet
     }
 
-    /// Ends the desk as [`Desk::close`] does, and moves a position outside any session to the end of the list. The
-    /// history of the sheet is what that list stands for.
+    /// Ends the desk as [`Desk::close`] does, and moves a position that is held outside any session to the end of the
+    /// published list. The sheet's history is then the one that the desk was opened with, followed by that list.
     ///
     /// Cost: that of freeing the published copies.
     pub fn close_at<V: Wait>(
@@ -59,7 +60,7 @@ impl<L: DeskName, W: Wait + Drop> Desk<L, W> {
         sheet
     }
 
-    /// Ends the desk, and returns its sheet with the end of its list, which is shown in full.
+    /// Ends the desk, and returns its sheet and the token for the whole list, which is shown.
     fn end<V: Wait>(self, wait: &V, passes: Vec<Pass<L>>) -> (Sheet, ShownPosition<L>)
         requires passes { vec_len passes ≡ self }
         ensures replica { result.0.replica ≡ L.replica }

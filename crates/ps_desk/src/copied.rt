@@ -1,4 +1,5 @@
-//! Copies of a rectangle's cells. A text is made of them once the lock, or the published copy, is free again.
+//! Copies of a rectangle's cells. The rectangle's text is written from such a copy, after the desk's lock or the
+//! published copy is released.
 
 ghost use Rattle.std.specs.Prelude.{◌≡◌, IfOk, IfErr};
 ghost use Rattle.ps_grid.specs.declared.refusal.Refusal.TheVariants.{Memory};
@@ -12,7 +13,7 @@ use ps_grid::{Cell, Rect, Refusal, Twin};
 use ps_value::{Operand, Value};
 use std::alloc::Global;
 
-/// What the cells of a rectangle showed when it was made.
+/// A copy of what the cells of a rectangle showed at one moment.
 #[derive(Drop)]
 pub(crate) struct CopiedValues {
     rect: Rect,
@@ -53,7 +54,7 @@ impl Look for CopiedValues {
     }
 }
 
-/// What the cells of a rectangle held when it was made. A text or a formula has one more owner.
+/// A copy of what the cells of a rectangle held at one moment. It shares texts and formulas with the sheet.
 #[derive(Drop)]
 pub(crate) struct CopiedContents {
     rect: Rect,
@@ -91,7 +92,7 @@ impl Holds for CopiedContents {
     }
 }
 
-/// Copies what a cell holds: a blank where nothing was assigned to it. Fails only when out of memory.
+/// Copies what a cell holds: a blank if nothing was assigned to the cell. Fails only when out of memory.
 fn held_at<H: Holds>(alloc: Global, holds: &H, cell: Cell) -> Result<Content, Refusal>
     ensures held { IfOk result (λ content. content ≡ H.held_at holds.now cell) }
     ensures memory { IfErr result (λ e. e ≡ Memory) }

@@ -1,4 +1,4 @@
-//! The desk: a lock round what its passes share.
+//! The desk: a lock round the sheet and the published copies that sessions share.
 
 ghost use Rattle.std.specs.Prelude.{◌≡◌, ◌⊎◌, ◌+◌, ◌<◌, ◌≤◌, ◌^◌, true, if◌then◌else◌, drop, length, take};
 ghost use Rattle.std.specs.Prelude.{List};
@@ -36,20 +36,20 @@ use std::time::{Clock, Duration, Instant};
 /// How long a session waits for more changes at most, in seconds.
 const LONGEST: u64 = 25;
 
-/// How long it sleeps at a time where it has to look at its peer, in milliseconds.
+/// How long a waiting session sleeps at a time if no lookout watches its peer, in milliseconds.
 const SLICE: u64 = 100;
 
-/// How many times it sleeps at most.
+/// How many times a waiting session sleeps at most.
 const MOST_SLEEPS: u32 = 250;
 
-/// A sheet that several sessions share, each by its pass. A contract sees it as the number of its slots.
+/// A sheet that several sessions share, each with its [`Pass`]. Contracts see it as the number of its session slots.
 #[derive(Drop)]
 pub struct Desk<L: DeskName, W: Wait + Drop> {
     state: Mutex<DeskState<L, W>>,
-    /// notified where more is shown
+    /// notified once more changes are shown, and once an alarm is raised
     grown: Condvar,
     seats: usize,
-    /// that of the sheet, which no change of it changes
+    /// the sheet's replica number, which never changes
     replica: u8,
 }
 
@@ -64,7 +64,7 @@ impl<L: DeskName, W: Wait + Drop> Model for Desk<L, W> {
 }
 
 impl<L: DeskName, W: Wait + Drop> Desk<L, W> {
-    /// A desk of what is to lie under its lock.
+    /// Creates a desk with this state under its lock.
     pub(crate) fn new(state: DeskState<L, W>, seats: usize, replica: u8) -> Desk<L, W>
         requires parts { seats ≡ L.parts }
         requires some { 1 ≤ seats }
@@ -79,7 +79,7 @@ impl<L: DeskName, W: Wait + Drop> Desk<L, W> {
         }
     }
 
-    /// What lies under the lock.
+    /// Ends the desk, and returns its state.
     pub(crate) fn into_state(self) -> DeskState<L, W>
         ensures parts { self ≡ L.parts }
         ensures some { 1 ≤ self }
@@ -97,7 +97,7 @@ impl<L: DeskName, W: Wait + Drop> Desk<L, W> {
         self.seats
     }
 
-    /// The replica of the sheet. It waits for nobody.
+    /// Returns the number of the sheet's replica. It takes no lock.
     pub fn replica(&self) -> u8
         ensures replica { result ≡ L.replica }
     {
@@ -106,14 +106,15 @@ impl<L: DeskName, W: Wait + Drop> Desk<L, W> {
 
     /// Makes the delta of an edit over the sheet's state, appends it to the history, and shows it to all readers.
     ///
-    /// The receipt encloses the delta, or nothing where the caller doesn't want it back ([`crate::Unenclosed`]).
+    /// The receipt encloses the delta, or nothing if the caller doesn't want it back ([`crate::Unenclosed`]).
     ///
-    /// The change is shown at once, with all that waits. Where the pass is at a [`crate::Seat`] with a keeper, a change
-    /// that directly follows another one waits until the session looks or sends its replies.
+    /// The change is shown at once, with all changes that wait to be shown. There is one exception: at a
+    /// [`crate::Seat`] with a keeper, a change that directly follows another one may wait. It waits until the session
+    /// reads or sends its replies, at the latest.
     ///
-    /// Refused as [`ps_sheet::Sheet::edit`] is, over the history that the pass has then seen. Where there is such a
-    /// delta, it may also fail when out of memory. It may wait for other calls, and for readers of what was published
-    /// before the last patch.
+    /// Refused as [`ps_sheet::Sheet::edit`] is, over the whole history, which the pass has then seen. An edit that has
+    /// no such cause of refusal may still fail when out of memory. The call may wait for other calls, and for readers
+    /// that still read an older copy.
     ///
     /// Cost: that of [`ps_sheet::Staging::stage`], and twice the cells that show another value.
     #[inline(always)]
@@ -143,10 +144,10 @@ impl<L: DeskName, W: Wait + Drop> Desk<L, W> {
         Ok(receipt)
     }
 
-    /// Accepts a delta made elsewhere: appends it to the history and shows it to all readers, as [`Desk::edit`] does,
-    /// unless it adds nothing new.
+    /// Accepts a delta made elsewhere. Unless the delta adds nothing new, it is appended to the history and shown to
+    /// all readers, as [`Desk::edit`] does with its delta.
     ///
-    /// Fails only when out of memory, and only where the delta was to be appended. It may wait as [`Desk::edit`] does.
+    /// Fails only when out of memory, and only if the delta adds something new. It may wait as [`Desk::edit`] does.
     ///
     /// Cost: that of [`ps_sheet::Staging::stage`], and twice the cells that show another value.
     #[inline(always)]
@@ -173,10 +174,11 @@ impl<L: DeskName, W: Wait + Drop> Desk<L, W> {
         Ok(receipt)
     }
 
-    /// Merges a delta made elsewhere: appends what is new of it, as [`Desk::receive`] appends a delta, unless nothing
-    /// is. The receipt encloses what was new.
+    /// Merges a delta made elsewhere: appends only the new part of the delta, as [`Desk::receive`] appends a delta.
     ///
-    /// Fails only when out of memory, and only where something is new. It may wait as [`Desk::edit`] does.
+    /// The receipt encloses the new part. If nothing is new, nothing is appended, and it encloses the whole delta.
+    ///
+    /// Fails only when out of memory, and only if something is new. It may wait as [`Desk::edit`] does.
     ///
     /// Cost: that of [`ps_sheet::Staging::stage`], and twice the cells that show another value.
     #[inline(always)]
@@ -228,14 +230,13 @@ impl<L: DeskName, W: Wait + Drop> Desk<L, W> {
         made
     }
 
-    /// Shows all that the pass has seen to readers, with whatever else waits, and returns the token for it.
+    /// Shows all that the pass has seen to readers, and returns the token for it.
     ///
-    /// A change waits if it was made at a [`crate::Seat`] with a keeper, directly after another one, until the session
-    /// looks or sends its replies. Every other call of a desk that brings a pass to the end of the list shows waiting
-    /// changes, too. It may wait for other calls, and for readers of what was shown before.
+    /// Only a change made at a [`crate::Seat`] with a keeper may wait to be shown: see [`Desk::edit`]. If the pass has
+    /// seen a change that may still wait, this call shows all waiting changes. It may then wait for other calls, and
+    /// for readers that still read an older copy.
     ///
-    /// Cost: that of publishing, which is a constant for each slot. Where nothing waits that the pass has seen, it is
-    /// constant, and takes no lock.
+    /// Cost: a constant for each slot. If the pass knows that all it has seen is shown: constant, and no lock is taken.
     #[inline]
     pub fn show<V: Wait>(&self, wait: &V, pass: &mut Pass<L>) -> ShownPosition<L>
         ensures shown { result ≡ pass.old.list }
@@ -260,11 +261,11 @@ impl<L: DeskName, W: Wait + Drop> Desk<L, W> {
         pass.note_shown(wait, &shown)
     }
 
-    /// How many changes the history has. The pass has then seen all that is published.
+    /// Returns the number of changes in the history. The pass has then seen the whole published list.
     ///
-    /// It may wait for other calls.
+    /// It may wait for other calls. It shows the changes that wait to be shown, as [`Desk::show`] does.
     ///
-    /// Cost: that of [`Desk::show`], if some of it waits to be shown.
+    /// Cost: that of [`Desk::show`].
     pub fn count<V: Wait>(&self, wait: &V, pass: &mut Pass<L>) -> u64
         ensures later { IsPrefix pass.old.list pass.new.list }
         ensures legal { IsLegal L.opening pass.new.list }
@@ -280,8 +281,8 @@ impl<L: DeskName, W: Wait + Drop> Desk<L, W> {
     /// Returns the number of changes in the history, once there are more than `seen`, or after `patience`, or once the
     /// alarm is raised. The caller needs no session slot, and no pass sees more because of it.
     ///
-    /// It holds no lock while it waits. It changes nothing, and shows what waits to be shown. Where the desk is kept in
-    /// a file, the last changes may be shown and not durable yet.
+    /// It holds no lock while it waits, and then shows the changes that wait to be shown. If the desk is kept in a
+    /// file, the counted changes needn't be durable yet.
     ///
     /// Cost: the time that it waits.
     pub fn news<V: Wait + Clock>(
@@ -300,25 +301,28 @@ impl<L: DeskName, W: Wait + Drop> Desk<L, W> {
         state.version()
     }
 
-    /// Raises an alarm, and ends the wait of those who heed it. It may wait for other calls.
+    /// Raises an alarm, and wakes the calls of this desk that wait with it, such as [`Desk::news`].
+    ///
+    /// It may wait for other calls.
     pub fn raise<V: Wait>(&self, wait: &V, alarm: &Alarm) {
         alarm.raise();
-        // who looked at it before this sleeps by now, and is woken
+        // once the lock is free, each call that found the alarm unraised sleeps, and can be woken
         drop(self.state.lock(wait));
         self.grown.notify_all();
     }
 
-    /// Wakes all who wait for changes, where some are shown that weren't.
+    /// Wakes all calls that wait for changes, if more may be shown now.
     fn wake(&self, is_more_shown: bool) {
         if is_more_shown {
             self.grown.notify_all();
         }
     }
 
-    /// Waits until the history has more changes than `seen`, until the peer of a session waits no longer, or for 25
+    /// Waits until the history has more changes than `seen`, or the peer of a session waits no longer, at most 25
     /// seconds. It holds no lock meanwhile, and changes nothing.
     ///
-    /// Cost: the time that it waits; where no lookout watches the peer, also a look at it ten times a second.
+    /// Cost: the time that it waits. If no lookout watches the peer, it also checks the peer's connection ten times a
+    /// second.
     pub(crate) fn linger<V: Wait + Clock>(&self, wait: &V, seen: u64, presence: Presence<'_>) {
         let never = Alarm::new();
         let mut left = Duration::from_secs(LONGEST);
@@ -351,8 +355,8 @@ impl<L: DeskName, W: Wait + Drop> Desk<L, W> {
         presence.unwatch();
     }
 
-    /// Waits until the history has more changes than `seen`, for `patience`, or until the alarm is raised, and returns
-    /// whether it has more.
+    /// Waits until the history has more changes than `seen`, or the alarm is raised, for at most `patience`. Returns
+    /// whether the history has more.
     fn has_more<V: Wait + Clock>(
         &self,
         wait: &V,
@@ -366,11 +370,11 @@ impl<L: DeskName, W: Wait + Drop> Desk<L, W> {
         state.version() > seen
     }
 
-    /// Returns the deltas of the history after the number `from`, in order, at most `at_most` of them. The pass has
-    /// then seen all that is published.
+    /// Returns the deltas of the history after the first `from`, in order, at most `at_most` of them. The pass has then
+    /// seen the whole published list.
     ///
-    /// Refused where the history is shorter than `from`. Where there are such deltas, it may also fail when out of
-    /// memory. It may wait for other calls.
+    /// Refused with `Version` if the history is shorter than `from`. If there are deltas to return, it may also fail
+    /// when out of memory. It may wait for other calls.
     ///
     /// Cost: linear in the deltas that it returns.
     pub fn pull<V: Wait>(
@@ -397,11 +401,11 @@ impl<L: DeskName, W: Wait + Drop> Desk<L, W> {
         state.deltas_after(alloc, from, at_most)
     }
 
-    /// Returns the deltas of the history after the number `from`, in order, to a caller without a session slot. No pass
-    /// sees more because of it. The position moves to the end of the published list.
+    /// Returns the deltas of the history after the first `from`, in order, to a caller without a session slot. No pass
+    /// sees more because of it. The position moves to the end of the published list, even if the call fails.
     ///
-    /// Refused where the history is shorter than `from`. Where there are such deltas, it may also fail when out of
-    /// memory. It may wait for other calls.
+    /// Refused with `Version` if the history is shorter than `from`. If there are deltas to return, it may also fail
+    /// when out of memory. It may wait for other calls.
     ///
     /// Cost: linear in the deltas that it returns.
     pub fn later<V: Wait>(
@@ -424,17 +428,17 @@ impl<L: DeskName, W: Wait + Drop> Desk<L, W> {
         position.catch_up(wait, shown);
         let deltas = state.deltas_after(alloc, from, usize::MAX);
         drop(state);
-        // another look may have shown what was hidden, and looks wake nobody
+        // calls such as `count` show waiting changes and wake nobody, so this one does
         self.wake(true);
         deltas
     }
 
-    /// Returns whether the sheet had, at some moment of the call, all of a delta that its own replica made. If it
-    /// hadn't, the replica's number is in use elsewhere, too, or changes of its own were lost.
+    /// Returns whether the sheet, at some moment of the call, has all parts of a delta that its own replica made. If it
+    /// hasn't, another sheet uses the replica's number, too, or this sheet has lost changes.
     ///
     /// It may wait for other calls.
     ///
-    /// Cost: that of `ps_sheet`'s `Staging::has_own`.
+    /// Cost: that of [`ps_sheet::Staging::has_own`].
     pub fn has_own<V: Wait>(&self, wait: &V, delta: &Delta) -> bool
         ensures own { (list : List Note) × IsLegal L.opening list
             × (result ≡ has_own L.replica (joined_history (history_of L.opening list)) delta.now) }
@@ -442,7 +446,8 @@ impl<L: DeskName, W: Wait + Drop> Desk<L, W> {
         self.state.lock(wait).has_own(delta)
     }
 
-    /// What a cell holds: its entry. The pass has then seen all that is published.
+    /// Returns the entry of a cell: the text that stands for what the cell holds. The pass has then seen the whole
+    /// published list.
     ///
     /// Refused only when out of memory. It may wait for other calls.
     ///
@@ -466,11 +471,11 @@ impl<L: DeskName, W: Wait + Drop> Desk<L, W> {
         state.entry(alloc, cell)
     }
 
-    /// What the cells of a rectangle hold: their entries, as the text of a table. The pass has then seen all that is
-    /// published.
+    /// Returns the entries of a rectangle's cells, as the text of a table. The pass has then seen the whole published
+    /// list.
     ///
-    /// Refused only when out of memory. It may wait for other calls. Others wait while the contents are copied, and not
-    /// while the text is made.
+    /// Refused only when out of memory. It may wait for other calls. Other calls wait while the contents are copied,
+    /// and not while the text is written.
     ///
     /// Cost: the cells of the rectangle and the bytes of the text.
     pub fn entries<V: Wait>(
@@ -498,7 +503,7 @@ impl<L: DeskName, W: Wait + Drop> Desk<L, W> {
     }
 }
 
-/// Returns what is left of a time since `begun`; nothing if the clock can't be read.
+/// Returns `left` less the time since `begun`; zero if the clock can't be read.
 fn left_after<V: Clock>(clock: &V, left: Duration, begun: Instant) -> Duration {
     match begun.elapsed(clock) {
         Ok(time) => left.saturating_sub(time),

@@ -1,4 +1,4 @@
-//! A law of desks.
+//! A law of desks: a function whose contract states a fact.
 
 ghost use Rattle.std.specs.Prelude.{IfSome};
 ghost use mathlib.Core.List.{IsPrefix};
@@ -11,9 +11,11 @@ use crate::shot::Shot;
 use crate::shown_position::ShownPosition;
 use ps_grid::Cell;
 
-/// States what a person sees after coming back at another slot. The slot's pass learns the token with which the last
-/// session ended ([`crate::Seat::leave`]). Then a look shows a settled value of a history that begins with all that the
-/// session had seen, and so with all that its replies told.
+/// States that a person whose new session gets another slot still sees all that the last session's replies said.
+///
+/// The last session ended with the token `told` ([`crate::Seat::leave`]). The function marks `told` as seen by the new
+/// slot's pass and reads a cell. The value is settled over a history that begins with all that the last session had
+/// seen.
 pub fn coming_back_shows_what_was_told<L: DeskName>(
     pass: &mut Pass<L>,
     told: &ShownPosition<L>,

@@ -3,7 +3,8 @@
 use ps_face::Named;
 use std::marker::Brand;
 
-/// Names a desk: what it says of the published copies, and the replica of the sheet. It has no function and no field.
+/// The name of a desk: a type that fixes, for contracts, the published copies and the replica of the sheet. A desk and
+/// its passes have the same name. All its members are ghosts, which only contracts see.
 pub trait DeskName: Named {
     ghost use Rattle.std.specs.Prelude.{ℕ};
 

@@ -20,12 +20,10 @@ use std::sync::Wait;
 use std::sync::ledger::Share;
 
 impl<L: DeskName, W: Wait + Drop> Desk<L, W> {
-    /// Opens a desk over a sheet, and returns a pass for each slot.
+    /// Opens a desk over the sheet of these parts, and returns the desk and a pass for each session slot.
     ///
-    /// When out of memory, or where a reader of the published copies gets no slot, it returns the sheet with the
-    /// refusal.
-    ///
-    /// The caller picks the name: it is that of the parts.
+    /// Fails when out of memory, or if a reader of the published copies can't be made (`Seat`). Then the call returns
+    /// the sheet with the refusal. The caller picks the name `L`, whose members have to describe the parts.
     ///
     /// Cost: that of copying the shown values twice.
     pub fn open(

@@ -8,8 +8,8 @@ use ps_sheet::Sheet;
 use std::marker::Model;
 use std::sync::ledger::Blank;
 
-/// A sheet for a number of session slots. It is made before the desk's name is picked, since the name says what is in
-/// it. A contract sees it as its `PartsView`.
+/// What a desk is opened from: a sheet, and the number of session slots. The parts are made before the desk's name is
+/// picked, since the name's members describe them. A contract sees them as a `PartsView`.
 #[derive(Drop)]
 pub struct Parts {
     pub(crate) sheet: Sheet,
@@ -42,7 +42,7 @@ impl Model for Parts {
 }
 
 impl Parts {
-    /// Creates the parts of a desk with this sheet and `seats` slots, 1 to `SEATS`.
+    /// Creates the parts of a desk with this sheet and `seats` session slots, 1 to `SEATS` of `ps_grid`.
     pub fn new(sheet: Sheet, seats: usize) -> Parts
         requires seats { (1 ≤ seats) × (seats ≤ MOST) }
         ensures sheet { result.sheet ≡ sheet }

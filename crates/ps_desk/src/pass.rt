@@ -25,7 +25,10 @@ use std::marker::Model;
 use std::sync::Wait;
 use std::sync::ledger::{Book, Share};
 
-/// A session's pass to a desk. A contract sees it as its `PassView`.
+/// A session's pass to a desk: its right to change the sheet, and a record of what it has seen and appended.
+///
+/// The record is a beginning of the desk's published list of patches, and a count of the deltas that the session
+/// appended. A slot's next session gets the slot's pass. A contract sees a pass as a `PassView`.
 #[derive(Drop)]
 pub struct Pass<L: DeskName> {
     /// absent while a copy is read
@@ -36,7 +39,7 @@ pub struct Pass<L: DeskName> {
     share: Share<L>,
     appended: u64,
     seat: u64,
-    /// how the session's changes follow each other
+    /// what the session has done lately, which decides when its next change is shown
     stream: Stream,
 }
 
@@ -60,7 +63,7 @@ impl<L: DeskName> Model for Pass<L> {
 }
 
 impl<L: DeskName> Pass<L> {
-    /// A pass that has seen nothing and appended nothing.
+    /// Creates a pass that has appended nothing, and has seen what its reader has.
     pub(crate) fn new(
         reader: FaceReader<L>,
         shown: ShownPosition<L>,
@@ -81,8 +84,8 @@ impl<L: DeskName> Pass<L> {
         }
     }
 
-    /// Returns the number of deltas that this pass appended. The list that it has seen has at least as many patches of
-    /// its slot.
+    /// Returns the number of deltas that this pass appended to the history. The list that the pass has seen has at
+    /// least as many patches of its slot.
     pub fn appended(&self) -> u64
         ensures appended { result ≡ self.now.appended }
         ensures owned { result ≤ owned_by self.now.seat self.now.list }
@@ -90,10 +93,10 @@ impl<L: DeskName> Pass<L> {
         self.appended
     }
 
-    /// Returns what a cell shows now, and its version. None means that the desk is gone.
+    /// Returns what a cell shows now, and the version; none if the desk is gone.
     ///
-    /// It is the settled value of a history that a legal published list stands for. The list begins with all that this
-    /// pass had seen or appended.
+    /// The value is settled: fully recalculated, over the history of a published list. The version is the length of
+    /// that history. The list begins with all that this pass had seen or appended.
     ///
     /// It takes no lock and no memory, and doesn't wait.
     pub fn read(&mut self, cell: Cell) -> Option<Shot>
@@ -117,10 +120,11 @@ impl<L: DeskName> Pass<L> {
         Some(shot)
     }
 
-    /// Writes what all cells show now, in order, and returns their version. None means that the desk is gone.
+    /// Writes what all cells show now to `values`, in the order of the grid, and returns the version; none if the desk
+    /// is gone.
     ///
-    /// All are settled values of one history that a legal published list stands for. The list begins with all that this
-    /// pass had seen or appended. It is public for callers that want all values at once.
+    /// All are settled values over one history, that of a published list. The version is the length of that history.
+    /// The list begins with all that this pass had seen or appended. The program itself doesn't call this function.
     ///
     /// Cost: the cells of the grid; no lock, no wait and no memory.
     pub fn read_all(&mut self, values: &mut [Value]) -> Option<u64>
@@ -142,10 +146,10 @@ impl<L: DeskName> Pass<L> {
         Some(version)
     }
 
-    /// Returns what the cells of a rectangle show now, as a table, by one look at the published copies. A change that
-    /// is published meanwhile waits while the values are copied, and not while the table's text is made.
+    /// Returns the text of a table with what the cells of a rectangle show now, all at one version. A change that is
+    /// published meanwhile waits while the values are copied, and not while the text is written.
     ///
-    /// Refused where the desk is gone, and when out of memory.
+    /// Refused if the desk is gone (`Seat`), and when out of memory.
     ///
     /// Cost: the cells of the rectangle, and the bytes of the table; no lock and no wait. It takes memory for both.
     pub(crate) fn table(&mut self, alloc: Global, rect: Rect) -> Result<Vec<u8>, Refusal>
@@ -162,22 +166,22 @@ impl<L: DeskName> Pass<L> {
         exported_text(alloc, &copied?, rect)
     }
 
-    /// Returns the number of the slot that the pass is for.
+    /// Returns the number of the pass's session slot, from 0.
     pub fn seat(&self) -> u64
         ensures { result ≡ self.now.seat }
     {
         self.seat
     }
 
-    /// Returns the position up to which the pass has seen the list.
+    /// Returns the position up to which the pass has seen the published list.
     pub fn position(&self) -> Position<L>
         ensures { result ≡ self.now.list }
     {
         Position::new(self.reader.as_ref().unwrap().front().again())
     }
 
-    /// Returns the token for all that the pass has seen, where that is known to be shown to all readers. While the pass
-    /// has seen nothing, there is always one.
+    /// Returns the token for all that the pass has seen; none if the pass doesn't know that all of it is shown to
+    /// readers. A pass that has seen nothing always returns one.
     pub fn shown(&self) -> Option<ShownPosition<L>>
         ensures shown { IfSome result (λ shown. shown ≡ self.now.list) }
         ensures unknown { IfNone result (self.now.list ≢ []) }
@@ -185,8 +189,8 @@ impl<L: DeskName> Pass<L> {
         self.shown.part(self.position())
     }
 
-    /// Records that all that the pass has seen is shown, and returns the token for it. No run meets a token of less:
-    /// the call would wait for ever.
+    /// Records that all that the pass has seen is shown, and returns the token for it. `shown` has to cover all of
+    /// that: otherwise the call never returns.
     pub(crate) fn note_shown<V: Wait>(
         &mut self,
         wait: &V,
@@ -204,7 +208,7 @@ impl<L: DeskName> Pass<L> {
         own
     }
 
-    /// Returns when the session's next change is shown.
+    /// Returns whether the session's next change is shown at once or later.
     #[inline(always)]
     pub(crate) fn next_showing(&self) -> Showing {
         self.stream.next()
@@ -218,7 +222,7 @@ impl<L: DeskName> Pass<L> {
         self.stream.has_changed = true;
     }
 
-    /// Records that the session looks, or sends its replies.
+    /// Records that the session reads, or sends its replies.
     #[inline(always)]
     pub(crate) fn looks(&mut self)
         ensures { self.new ≡ self.old }
@@ -226,15 +230,15 @@ impl<L: DeskName> Pass<L> {
         self.stream.has_changed = false;
     }
 
-    /// Leaves it to a keeper to show the session's changes before its replies are sent, or no longer.
+    /// Records whether the session has a keeper, which shows the session's changes before its replies are sent.
     pub(crate) fn leave_to_keeper(&mut self, is_kept: bool)
         ensures { self.new ≡ self.old }
     {
         self.stream.is_kept = is_kept;
     }
 
-    /// Marks the list as seen up to a position that is shown, or further where it was already. Each later look has
-    /// that, too. It is public for callers that pass positions from one pass to another.
+    /// Marks the published list as seen up to a shown position, if the pass hasn't seen more already. Each later read
+    /// has all of it, too. It is public for callers that pass positions from one pass to another.
     pub fn learn(&mut self, shown: &ShownPosition<L>)
         ensures later { IsPrefix self.old.list self.new.list }
         ensures seen { IsPrefix shown.now self.new.list }
@@ -248,7 +252,8 @@ impl<L: DeskName> Pass<L> {
         self.reader = Some(reader);
     }
 
-    /// Marks the whole published list as seen. No run meets a pass that has seen more: the call would wait for ever.
+    /// Marks the published list as seen up to `front`, its end. The call never returns if the pass has seen more, but
+    /// no pass has.
     pub(crate) fn catch_up<V: Wait>(&mut self, wait: &V, front: &BookPrefix)
         requires book { front.now.book ≡ L.book }
         requires legal { IsLegal L.opening front.now.list }
@@ -264,7 +269,7 @@ impl<L: DeskName> Pass<L> {
         }
     }
 
-    /// Counts one delta more, whose patch it has seen.
+    /// Counts one more appended delta, in the pass and in the desk's book. The pass has seen the delta's patch.
     pub(crate) fn count(&mut self, book: &mut Book<L>)
         requires room { book.old.total + 1 < 2 ^ 64 }
         requires owned { self.old.appended + 1 ≤ owned_by self.old.seat self.old.list }
@@ -282,7 +287,7 @@ impl<L: DeskName> Pass<L> {
         *appended += 1;
     }
 
-    /// Gives up its share.
+    /// Ends the pass, and returns its share of the desk's book: the number of deltas that it appended.
     pub(crate) fn end<V: Wait>(mut self, wait: &V, front: &BookPrefix) -> Share<L>
         requires book { front.now.book ≡ L.book }
         requires legal { IsLegal L.opening front.now.list }
@@ -295,8 +300,10 @@ impl<L: DeskName> Pass<L> {
     }
 }
 
-/// Enters the copy that is published now. The reader is absent until it leaves. None means that the desk is gone, and
-/// then the reader is still there.
+/// Enters the copy that is shown now. While the copy is read, `reader` is absent.
+///
+/// Returns none, and leaves `reader` there, if the desk is gone. The same happens if the pass has seen a change that
+/// waits to be shown, but every caller has it shown first.
 #[inline(always)]
 fn enter<L: DeskName>(reader: &mut Option<FaceReader<L>>) -> Option<Seen<L>>
     requires here { IsSome reader.old }
@@ -315,7 +322,7 @@ fn enter<L: DeskName>(reader: &mut Option<FaceReader<L>>) -> Option<Seen<L>>
     }
 }
 
-/// Writes what all cells show, in order.
+/// Writes what all cells show to `values`, in the order of the grid.
 fn copy_all<L: DeskName>(seen: &Seen<L>, values: &mut [Value])
     requires shows { Shows (history_of L.opening seen.now.list) seen.now.values }
     requires room { length values.old ≡ CELLS }

@@ -15,8 +15,10 @@ use ps_sheet::Staging;
 use ps_shown::{Kept, Shown};
 use std::alloc::Global;
 
-/// Returns the patch of the staged fresh change, by a call of the slot `owner`. It changes what the cell `one` shows,
-/// or else what the listed cells show, and may come next after the sheet's history. Fails only when out of memory.
+/// Returns the patch of the staged fresh change, for a call of the session slot `owner`.
+///
+/// The patch has what the cell `one` shows, or else what the cells that the sheet has listed show. It may be published
+/// next, since it follows the sheet's history. Fails only when out of memory.
 #[inline(always)]
 pub(crate) fn patch_of(
     alloc: Global,
@@ -45,7 +47,7 @@ pub(crate) fn patch_of(
     }
 }
 
-/// Returns the cells with what a table stores of them. A text gets one more owner.
+/// Returns the cells, each with a copy of what it shows. Texts are shared with the sheet.
 #[inline(never)]
 fn copy_shown(alloc: Global, cells: &[Cell], shown: &Shown) -> Result<Vec<(Cell, Kept)>, Refusal>
     ensures copied { IfOk result (λ c. map valued c.items ≡ map (shown_of (shown_at shown.now)) cells.now) }

@@ -8,8 +8,8 @@ use crate::name::DeskName;
 use ps_face::BookPrefix;
 use std::marker::{Model, PhantomData};
 
-/// A position in the published list of a desk, held outside any session. It is a token for the list up to there, and
-/// shows no values. A contract sees it as that list.
+/// A position in the published list of a desk: a token for the list up to there. It can be held outside any session,
+/// and gives no access to values. A contract sees it as that beginning of the list.
 #[derive(Drop)]
 pub struct Position<L: DeskName> {
     pub(crate) front: BookPrefix,
@@ -33,7 +33,7 @@ impl<L: DeskName> Model for Position<L> {
 }
 
 impl<L: DeskName> Position<L> {
-    /// Creates the position at the end of this beginning of the list.
+    /// Creates the position at the end of a beginning of the list.
     pub(crate) fn new(front: BookPrefix) -> Position<L>
         requires book { front.book ≡ L.book }
         requires legal { IsLegal L.opening front.list }
@@ -55,7 +55,7 @@ impl<L: DeskName> Position<L> {
         }
     }
 
-    /// Returns whether the other position is as far, or further. Then its list begins with this one's.
+    /// Returns whether `other` is this position or a later one. Then the list of `other` begins with this one's.
     pub fn begins(&self, other: &Position<L>) -> bool
         ensures begins { MatchBool result
             (IsPrefix self.now other.now × (length self.now ≤ length other.now))

@@ -1,4 +1,4 @@
-//! Whether a session's peer still waits for its reply, and what ends a wait.
+//! Whether a session's peer still waits for its reply, and the alarms that end a wait early.
 
 use mio::unix::SourceFd;
 use mio::{Interest, Registry, Token};
@@ -8,7 +8,7 @@ use std::net::TcpStream;
 use std::os::fd::AsRawFd;
 use std::sync::atomic::{AtomicBool, Ordering};
 
-/// What ends a wait at a desk before its time, once [`crate::Desk::raise`] has raised it.
+/// A flag that ends a wait at a desk early, once [`crate::Desk::raise`] has raised it.
 #[derive(Drop)]
 pub struct Alarm {
     is_raised: AtomicBool,
@@ -22,24 +22,26 @@ impl Alarm {
         }
     }
 
-    /// Raises it. Those who sleep aren't woken.
+    /// Raises the alarm, and wakes nobody.
     pub(crate) fn raise(&self) {
         self.is_raised.store(true, Ordering::SeqCst);
     }
 
-    /// Returns whether it was raised.
+    /// Returns whether the alarm is raised.
     pub(crate) fn is_raised(&self) -> bool {
         self.is_raised.load(Ordering::SeqCst)
     }
 
-    /// Lowers it.
+    /// Lowers the alarm.
     fn lower(&self) {
         self.is_raised.store(false, Ordering::SeqCst);
     }
 }
 
-/// The connections of the sessions that wait. A thread of its own sleeps until the system reports one of them by the
-/// number of its slot, and then raises the alarm of that slot.
+/// Watches the connections of the sessions that wait, and has an alarm for each session slot.
+///
+/// The lookout's owner has a thread that sleeps until the system reports one of these connections, by the number of its
+/// slot. The thread then raises the alarm of that slot.
 #[derive(Drop)]
 pub struct Lookout {
     registry: Registry,
@@ -48,7 +50,8 @@ pub struct Lookout {
 }
 
 impl Lookout {
-    /// Creates a lookout for as many slots. The registry is of what the thread sleeps on.
+    /// Creates a lookout for `slots` session slots. `registry` belongs to the `mio::Poll` that the owner's thread
+    /// sleeps on. Fails when out of memory.
     pub fn new(alloc: Global, registry: Registry, slots: usize) -> Result<Lookout, AllocError> {
         let mut alarms = Vec::with_capacity(alloc, slots)?;
         for _ in 0..slots {
@@ -62,8 +65,8 @@ impl Lookout {
         self.alarms.get(number)
     }
 
-    /// Lowers the alarm of a slot, and has it raised once this connection has something to read. Returns none if that
-    /// can't be.
+    /// Lowers the alarm of a slot, and registers the connection, so that the alarm is raised once the connection has
+    /// something to read. Returns the alarm; none if there is no such slot or the system refuses.
     fn watch(&self, stream: &TcpStream, number: usize) -> Option<&Alarm> {
         self.forget(stream);
         let alarm = self.alarm(number)?;
@@ -79,14 +82,14 @@ impl Lookout {
         }
     }
 
-    /// Reports this connection no more.
+    /// Ends the registration of a connection.
     fn forget(&self, stream: &TcpStream) {
         let file = stream.as_raw_fd();
         let _ = self.registry.deregister(&mut SourceFd(&file));
     }
 }
 
-/// A slot of a lookout.
+/// A lookout, and the slot in it that watches one session's peer.
 #[derive(Clone, Copy)]
 pub struct Watch<'a> {
     /// The lookout.
@@ -95,7 +98,7 @@ pub struct Watch<'a> {
     pub number: usize,
 }
 
-/// A session's peer, at the other end of a connection.
+/// A session's peer: the client at the other end of a connection.
 #[derive(Clone, Copy)]
 pub struct Presence<'a> {
     stream: &'a TcpStream,
@@ -103,7 +106,8 @@ pub struct Presence<'a> {
 }
 
 impl<'a> Presence<'a> {
-    /// Returns the peer at the other end of this connection. Nobody else may read its bytes meanwhile.
+    /// Returns the peer at the other end of this connection. While the result is in use, nothing else may read from the
+    /// connection.
     pub fn of(stream: &'a TcpStream) -> Presence<'a> {
         Presence {
             stream,
@@ -111,7 +115,7 @@ impl<'a> Presence<'a> {
         }
     }
 
-    /// Returns the same peer, which a lookout watches while its session waits, if there is one.
+    /// Returns the same peer. `watch` watches it while its session waits; `None` means that no lookout does.
     pub fn watched_by(self, watch: Option<Watch<'a>>) -> Presence<'a> {
         Presence {
             stream: self.stream,
@@ -119,22 +123,23 @@ impl<'a> Presence<'a> {
         }
     }
 
-    /// Returns whether the peer has neither gone nor sent more.
+    /// Returns whether the peer still waits: it has neither closed the connection nor sent more bytes.
     ///
     /// Cost: three system calls.
     pub fn is_waiting(&self) -> bool {
         is_silent(self.stream)
     }
 
-    /// Returns an alarm that is raised once the peer goes or sends more; none if somebody has to look instead.
+    /// Returns an alarm that is raised once the peer closes the connection or sends more. Returns none if no lookout
+    /// watches the peer; then the caller has to poll [`Presence::is_waiting`].
     ///
-    /// It may also be raised for what happened before.
+    /// The alarm may also be raised for something that happened earlier.
     pub(crate) fn watch(&self) -> Option<&'a Alarm> {
         let Watch { lookout, number } = self.watch?;
         lookout.watch(self.stream, number)
     }
 
-    /// Ends what [`Presence::watch`] began.
+    /// Ends the watch that [`Presence::watch`] began.
     pub(crate) fn unwatch(&self) {
         if let Some(watch) = self.watch {
             watch.lookout.forget(self.stream);

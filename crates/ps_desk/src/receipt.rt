@@ -1,4 +1,4 @@
-//! The receipt of a change, and what it encloses of its delta.
+//! The receipt of a change, and whether it encloses the change's delta.
 
 ghost use Rattle.std.specs.Prelude.{◌≡◌};
 ghost use Rattle.ps_desk.specs.Receipts.{merged_of};
@@ -9,11 +9,11 @@ use ps_session::Merged;
 use std::alloc::Global;
 use std::sync::Wait;
 
-/// What a receipt encloses of a change's delta: the delta itself, or nothing where nobody wants it back.
+/// What a receipt encloses of a change's delta: the delta itself, or nothing if the caller doesn't want it back.
 pub trait Enclosure: Sized {
     ghost use Rattle.ps_delta.specs.Deltas.{Entries};
 
-    /// Holds of what is enclosed and the delta.
+    /// What is known of an enclosed value and the change's delta.
     ghost tells: { Self → Entries → Type 0 };
 
     /// Returns what a receipt encloses of this delta.
@@ -21,7 +21,7 @@ pub trait Enclosure: Sized {
         ensures { tells result delta.now };
 }
 
-/// The delta, with one owner more.
+/// Encloses the delta itself, which shares its parts with the history.
 impl Enclosure for Delta {
     ghost use Rattle.std.specs.Prelude.{◌≡◌};
 
@@ -32,7 +32,7 @@ impl Enclosure for Delta {
     }
 }
 
-/// Nothing of a change's delta. It takes no time.
+/// Encloses nothing of a change's delta, and takes no time.
 #[derive(Clone, Copy, Debug)]
 pub struct Unenclosed;
 
@@ -47,29 +47,29 @@ impl Enclosure for Unenclosed {
     }
 }
 
-/// The result of a change: its delta, and where that stands in the history.
+/// The result of a change: its number in the history, and what is enclosed of its delta.
 #[derive(Drop)]
 pub struct Receipt<E> {
-    /// The number of the delta in the history, if it is fresh. Otherwise the length of the history, to which the delta
-    /// added nothing new.
+    /// The number of the delta in the history, from 1, if `fresh`. Otherwise the length of the history, to which the
+    /// delta added nothing new.
     pub number: u64,
     /// What is enclosed of the delta.
     pub enclosed: E,
-    /// Whether this change appended the delta.
+    /// Whether this change appended its delta to the history.
     pub fresh: bool,
 }
 
-/// Where a change stands in the history: its receipt, with nothing enclosed yet.
+/// A receipt with nothing enclosed yet.
 #[derive(Drop)]
 pub(crate) struct Standing {
-    /// the number as [`Receipt`] has it
+    /// the number, as in [`Receipt`]
     pub(crate) number: u64,
     /// whether the change appended the delta
     pub(crate) fresh: bool,
 }
 
 impl Standing {
-    /// Returns the receipt that encloses this.
+    /// Returns the receipt that encloses `enclosed`.
     #[inline(always)]
     pub(crate) fn enclosing<E>(self, enclosed: E) -> Receipt<E>
         ensures { result ≡ record { number = self.number; enclosed = enclosed; fresh = self.fresh } }
@@ -82,7 +82,7 @@ impl Standing {
     }
 }
 
-/// Returns the result of a merge that has this receipt.
+/// Returns the result of a merge, given its receipt.
 pub(crate) fn merged(receipt: &Receipt<Unenclosed>) -> Merged
     ensures { result ≡ merged_of receipt.now.number receipt.now.fresh }
 {

@@ -21,11 +21,12 @@ use std::sync::ledger::Ledger;
 use std::thread::Threads;
 use std::time::Clock;
 
-/// A desk and a session's pass to it, which together answer the lines of the session. A contract sees it as the pass.
+/// A session at a desk: the desk and the session's pass, which together answer the lines of the session. A contract
+/// sees it as the pass.
 #[derive(Drop)]
 pub struct Seat<'a, L: DeskName, W: Wait + Drop, V: Wait> {
     desk: &'a Desk<L, W>,
-    /// the means by which it waits for the desk's lock
+    /// the means to wait for the desk's lock
     wait: &'a V,
     pass: Pass<L>,
     /// the peer, which may stop waiting for a reply
@@ -45,7 +46,7 @@ impl<'a, L: DeskName, W: Wait + Drop, V: Wait> Model for Seat<'a, L, W, V> {
 }
 
 impl<'a, L: DeskName, W: Wait + Drop, V: Wait> Seat<'a, L, W, V> {
-    /// Creates a session at a desk, with its pass and its peer.
+    /// Creates a session at a desk from its pass and its peer. `wait` is the means to wait for the desk's lock.
     pub fn new(
         desk: &'a Desk<L, W>,
         wait: &'a V,
@@ -62,7 +63,7 @@ impl<'a, L: DeskName, W: Wait + Drop, V: Wait> Seat<'a, L, W, V> {
         }
     }
 
-    /// Returns the position up to which the session has seen the list.
+    /// Returns the position up to which the session has seen the published list.
     pub fn position(&self) -> Position<L>
         ensures { result ≡ self.now.list }
     {
@@ -71,7 +72,7 @@ impl<'a, L: DeskName, W: Wait + Drop, V: Wait> Seat<'a, L, W, V> {
 
     /// Shows all that the session has seen to readers, its own changes included, and returns the token for it.
     ///
-    /// Cost: that of [`Desk::show`], if some of it waits to be shown.
+    /// Cost: that of [`Desk::show`].
     pub fn show(&mut self) -> ShownPosition<L>
         ensures shown { result ≡ self.old.list }
         ensures same { self.new ≡ self.old }
@@ -79,9 +80,11 @@ impl<'a, L: DeskName, W: Wait + Drop, V: Wait> Seat<'a, L, W, V> {
         self.desk.show(self.wait, &mut self.pass)
     }
 
-    /// Leaves it to a keeper to show the session's changes before its replies are sent, and returns the token for all
-    /// that the session has seen so far. So changes that directly follow each other can be shown together. Without a
-    /// keeper each change is shown at once.
+    /// Declares that the session has a keeper (`Keeper` of `ps_session`). Returns the token for all that the session
+    /// has seen, which is shown now.
+    ///
+    /// The keeper has to show the session's changes before the replies are sent. In return, changes that directly
+    /// follow each other may be shown together. Without a keeper, each change is shown at once.
     ///
     /// Cost: that of [`Seat::show`].
     pub fn leave_to_keeper(&mut self) -> ShownPosition<L>
@@ -92,17 +95,18 @@ impl<'a, L: DeskName, W: Wait + Drop, V: Wait> Seat<'a, L, W, V> {
         self.show()
     }
 
-    /// Records that all that the session has seen is shown. No run meets a token of less: the call would wait for ever.
+    /// Records that all that the session has seen is shown. `shown` has to cover all of that: otherwise the call never
+    /// returns.
     pub fn note_shown(&mut self, shown: &ShownPosition<L>)
         ensures same { self.new ≡ self.old }
     {
         let _ = self.pass.note_shown(self.wait, shown);
     }
 
-    /// Ends the session, and returns its pass. All that the session has seen is then shown to readers, its own changes
-    /// included, and the token says so.
+    /// Ends the session, and returns its pass. It first shows all that the session has seen to readers, its own changes
+    /// included, and returns the token for that.
     ///
-    /// Cost: that of [`Desk::show`], if some of it waits to be shown.
+    /// Cost: that of [`Desk::show`].
     pub fn leave(mut self) -> (Pass<L>, ShownPosition<L>)
         ensures pass { result.0 ≡ self.entry }
         ensures shown { result.1 ≡ result.0.list }

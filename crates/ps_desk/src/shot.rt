@@ -2,11 +2,11 @@
 
 use ps_value::Value;
 
-/// A cell's shown value, and its version.
+/// What a cell shows, at one version of the sheet.
 #[derive(Drop)]
 pub struct Shot {
-    /// The length of the history that the value is of.
+    /// The version: the number of changes in the history.
     pub version: u64,
-    /// The cell's value after that history.
+    /// The value that the cell shows after these changes.
     pub value: Value,
 }

@@ -3,9 +3,9 @@
 /// The moment at which a change is shown to readers.
 #[derive(Clone, Copy)]
 pub(crate) enum Showing {
-    /// The call that makes the change, which shows all waiting changes, too.
+    /// In the call that makes the change. That call also shows all waiting changes.
     AtOnce,
-    /// The next call that shows waiting changes.
+    /// In a later call that shows waiting changes, or earlier if too many wait.
     Later,
 }
 
@@ -19,12 +19,12 @@ impl Showing {
     }
 }
 
-/// How a session's changes, looks and replies follow each other, which decides when the next change is shown.
+/// What a session has done lately, which decides when its next change is shown.
 #[derive(Clone, Copy)]
 pub(crate) struct Stream {
-    /// Whether a keeper shows what the session changed before its replies are sent.
+    /// Whether the session has a keeper, which shows the session's changes before its replies are sent.
     pub(crate) is_kept: bool,
-    /// Whether the session has changed something, and neither looked nor sent its replies since.
+    /// Whether the session has changed something, and has neither read nor sent its replies since.
     pub(crate) has_changed: bool,
 }
 

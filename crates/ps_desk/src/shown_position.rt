@@ -14,10 +14,10 @@ use std::alloc::Global;
 use std::marker::Model;
 use std::sync::Wait;
 
-/// A token for a beginning of the published list of a desk that is shown to all readers. A contract sees it as that
-/// list.
+/// A token which proves that a beginning of a desk's published list is shown to all readers. A contract sees it as that
+/// beginning.
 ///
-/// Only a look at the published copies makes one, or a call of the desk that shows waiting changes.
+/// Only reading the published copies makes one, or a call of the desk that shows waiting changes.
 #[derive(Drop)]
 pub struct ShownPosition<L: DeskName> {
     position: Position<L>,
@@ -37,7 +37,7 @@ impl<L: DeskName> Model for ShownPosition<L> {
 }
 
 impl<L: DeskName> ShownPosition<L> {
-    /// Creates the token for what is shown.
+    /// Creates the token for a beginning of the list that is shown.
     pub(crate) fn new(shown: &ShownPrefix) -> ShownPosition<L>
         requires book { shown.now.book ≡ L.book }
         requires legal { IsLegal L.opening shown.now.list }
@@ -57,14 +57,14 @@ impl<L: DeskName> ShownPosition<L> {
         }
     }
 
-    /// Returns the position where it ends.
+    /// Returns the position up to which the list is shown.
     pub fn position(&self) -> &Position<L>
         ensures { result.now ≡ self.now }
     {
         &self.position
     }
 
-    /// Returns whether the list is shown up to this position.
+    /// Returns whether this token covers the list up to `position`.
     pub fn has(&self, position: &Position<L>) -> bool
         ensures { MatchBool result
             (IsPrefix position.now self.now × (length position.now ≤ length self.now))
@@ -73,7 +73,7 @@ impl<L: DeskName> ShownPosition<L> {
         position.begins(&self.position)
     }
 
-    /// Returns the token for the list up to a position, if that is shown.
+    /// Returns the token for the list up to `position`, if this token covers it.
     pub(crate) fn part(&self, position: Position<L>) -> Option<ShownPosition<L>>
         ensures shown { IfSome result (λ part. part ≡ position) }
         ensures longer { IfNone result (length self.now < length position) }
@@ -84,7 +84,7 @@ impl<L: DeskName> ShownPosition<L> {
         None
     }
 
-    /// Moves to the end of what is shown now. No run meets a token beyond it: the call would wait for ever.
+    /// Moves to `now`, the end of what is shown now. The call never returns if this token covers more, but none does.
     pub(crate) fn catch_up<V: Wait>(&mut self, wait: &V, now: ShownPosition<L>)
         ensures later { IsPrefix self.old now }
         ensures all { self.new ≡ now }
@@ -97,8 +97,8 @@ impl<L: DeskName> ShownPosition<L> {
     }
 }
 
-/// Before a session sends its replies, all that it has seen is shown to everyone, whichever session made it. It is the
-/// keeper of a session at a desk that isn't kept in a file.
+/// The keeper of a session at a desk that isn't kept in a file. Before the session sends its replies, the keeper shows
+/// all that the session has seen to all readers, including the changes of other sessions.
 impl<L: DeskName, W: Wait + Drop, V: Wait> Keeper<Seat<'_, L, W, V>> for ShownPosition<L> {
     ghost use Rattle.std.specs.Prelude.{⊤};
     ghost use mathlib.Core.List.{IsPrefix};

@@ -1,4 +1,4 @@
-//! What lies under the lock of a desk.
+//! The state that a desk's lock guards.
 
 ghost use Rattle.std.specs.Prelude.{◌≡◌, ◌⊎◌, ◌↔◌, ◌<◌, ◌^◌, [], drop, length, take, Err, IfOk, IfErr, OnErr};
 ghost use mathlib.Core.List.{IsPrefix};
@@ -34,10 +34,11 @@ use std::sync::Wait;
 use std::sync::ledger::{Book, Ledger, Share};
 use std::thread::Threads;
 
-/// The sheet, the writer of its published copies, and the book of what was appended. A contract sees it as that writer.
+/// The sheet, the writer of its published copies, and the book that counts what the passes appended. A contract sees it
+/// as that writer.
 ///
-/// Nothing is staged in the sheet between two calls. What is shown is a beginning of the list. The list has more only
-/// where changes wait.
+/// Between two calls nothing is staged in the sheet. Readers are shown a beginning of the published list: all of it,
+/// unless changes wait to be shown.
 #[derive(Drop)]
 pub(crate) struct DeskState<L: DeskName, W: Wait + Drop> {
     sheet: Staging,
@@ -65,7 +66,7 @@ impl<L: DeskName, W: Wait + Drop> Model for DeskState<L, W> {
 }
 
 impl<L: DeskName, W: Wait + Drop> DeskState<L, W> {
-    /// What lies under the lock of a desk that opens.
+    /// Creates the state of a desk that opens.
     pub(crate) fn new(sheet: Sheet, copies: FaceWriter<L, W>, book: Book<L>) -> DeskState<L, W>
         requires replica { sheet.replica ≡ L.replica }
         requires history { sheet.history ≡ L.opening }
@@ -82,7 +83,7 @@ impl<L: DeskName, W: Wait + Drop> DeskState<L, W> {
         }
     }
 
-    /// The published list.
+    /// Returns the token for the whole published list.
     pub(crate) fn front(&self) -> &BookPrefix
         ensures front { result.now ≡ record { book = L.book; list = self.now.list } }
         ensures legal { IsLegal L.opening self.now.list }
@@ -90,7 +91,7 @@ impl<L: DeskName, W: Wait + Drop> DeskState<L, W> {
         self.copies.front()
     }
 
-    /// How many changes the history has.
+    /// Returns the number of changes in the history.
     pub(crate) fn version(&self) -> u64
         ensures version { result ≡ length (history_of L.opening self.now.list) }
         ensures legal { IsLegal L.opening self.now.list }
@@ -100,7 +101,7 @@ impl<L: DeskName, W: Wait + Drop> DeskState<L, W> {
         self.sheet.version()
     }
 
-    /// Shows all of the published list to those who look.
+    /// Shows the whole published list to readers, and returns the token for it.
     pub(crate) fn show(&mut self) -> ShownPosition<L>
         ensures copies { self.new ≡ record self.old { shown = self.old.list } }
         ensures shown { result ≡ self.new.list }
@@ -111,7 +112,7 @@ impl<L: DeskName, W: Wait + Drop> DeskState<L, W> {
         ShownPosition::new(&self.copies.shown())
     }
 
-    /// Shows all of the published list to those who look, and has a pass see it.
+    /// Shows the whole published list to readers, and marks it as seen by the pass.
     pub(crate) fn look<V: Wait>(&mut self, wait: &V, pass: &mut Pass<L>)
         ensures copies { self.new ≡ record self.old { shown = self.old.list } }
         ensures later { IsPrefix pass.old.list self.new.list }
@@ -123,7 +124,8 @@ impl<L: DeskName, W: Wait + Drop> DeskState<L, W> {
         let _ = pass.note_shown(wait, &shown);
     }
 
-    /// Ends the desk, given the merged shares of all passes, and returns its sheet.
+    /// Ends the desk's state, and returns the sheet. `all` is the merged share of all passes, which the book's total
+    /// equals.
     pub(crate) fn end(self, all: &mut Share<L>) -> Sheet
         requires all { all.old.parts ≡ L.parts }
         ensures replica { result.replica ≡ L.replica }
@@ -140,11 +142,11 @@ impl<L: DeskName, W: Wait + Drop> DeskState<L, W> {
         sheet.into_sheet()
     }
 
-    /// Makes a change for the session of a pass, which has then seen all that is published. A change that is shown at
-    /// once shows all waiting changes, too. The receipt encloses what is asked for of the change's delta.
+    /// Makes a change for the session of a pass, and returns its receipt. The pass has then seen the whole published
+    /// list. If the change is shown at once, all waiting changes are shown, too.
     ///
-    /// Refused as the sheet refuses the change. Where the change was to be appended, it may also fail when out of
-    /// memory. After a refusal nothing is published.
+    /// Refused as the sheet refuses the change. A change that adds something new may also fail when out of memory.
+    /// After a refusal the published list is as before.
     #[inline(always)]
     pub(crate) fn make<R: Threads + Sync, V: Wait, M: Ledger, E: Enclosure + Drop>(
         &mut self,
@@ -183,10 +185,10 @@ impl<L: DeskName, W: Wait + Drop> DeskState<L, W> {
         Ok(standing.enclosing(enclosed))
     }
 
-    /// Returns the deltas of the history after the number `from`, in order, at most `at_most` of them.
+    /// Returns the deltas of the history after the first `from`, in order, at most `at_most` of them.
     ///
-    /// Refused where the history is shorter than `from`. Where there are such deltas, it may also fail when out of
-    /// memory.
+    /// Refused with `Version` if the history is shorter than `from`. If there are deltas to return, it may also fail
+    /// when out of memory.
     pub(crate) fn deltas_after(
         &self,
         alloc: Global,
@@ -207,7 +209,7 @@ impl<L: DeskName, W: Wait + Drop> DeskState<L, W> {
 }
 
 impl<L: DeskName, W: Wait + Drop> DeskState<L, W> {
-    /// Whether the sheet has all of a delta that its own replica made.
+    /// Returns whether the sheet has all parts of a delta that its own replica made.
     pub(crate) fn has_own(&self, delta: &Delta) -> bool
         ensures own { result ≡ has_own L.replica (joined_history (history_of L.opening self.now.list)) delta.now }
         ensures legal { IsLegal L.opening self.now.list }
@@ -217,7 +219,7 @@ impl<L: DeskName, W: Wait + Drop> DeskState<L, W> {
         self.sheet.has_own(delta)
     }
 
-    /// The entry of a cell. Refused only when out of memory.
+    /// Returns the entry of a cell. Fails only when out of memory.
     pub(crate) fn entry(&self, alloc: Global, cell: Cell) -> Result<Vec<u8>, Refusal>
         ensures text { IfOk result (λ t. t.items
             ≡ entry_text (held_in (history_of L.opening self.now.list)) cell) }
@@ -226,7 +228,7 @@ impl<L: DeskName, W: Wait + Drop> DeskState<L, W> {
         entry_of(alloc, self, cell)
     }
 
-    /// Copies what the cells of a rectangle hold. Refused only when out of memory.
+    /// Copies what the cells of a rectangle hold. Fails only when out of memory.
     pub(crate) fn copied(&self, alloc: Global, rect: Rect) -> Result<CopiedContents, Refusal>
         ensures same { IfOk result (λ copy.
             SameIn rect (holds_in copy) (held_in (history_of L.opening self.now.list))) }

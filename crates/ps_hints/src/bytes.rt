@@ -1,6 +1,6 @@
-//! Small questions about bytes.
+//! Tests of bytes, and parts of texts.
 
-/// Returns whether a byte is a blank of a formula.
+/// Returns whether a byte is a blank, which a formula may have between its parts.
 pub(crate) fn is_blank(byte: u8) -> bool {
     byte == b' ' || byte == b'\t' || byte == b'\n' || byte == b'\r'
 }
@@ -31,12 +31,12 @@ pub(crate) fn first_filled(text: &[u8]) -> Option<u8> {
     None
 }
 
-/// Returns the bytes as a text; none if they aren't UTF-8.
+/// Returns the bytes as a text, or `None` if they aren't UTF-8.
 pub(crate) fn text_of(bytes: &[u8]) -> Option<&str> {
     str::from_utf8(bytes).ok()
 }
 
-/// Returns the first character, if the bytes are UTF-8 up to its end.
+/// Returns the first character as a text, or `None` if the bytes don't begin with one of UTF-8.
 pub(crate) fn first_character(bytes: &[u8]) -> Option<&str> {
     for length in 1..5 {
         if let Some(front) = bytes.get(..length) {

@@ -15,7 +15,7 @@ impl fmt::Display for Capitals<'_> {
     }
 }
 
-/// A text that is displayed with its ASCII letters small.
+/// A text that is displayed with its ASCII letters in lower case.
 #[derive(Clone, Copy)]
 pub(crate) struct Small<'a>(pub(crate) &'a str);
 

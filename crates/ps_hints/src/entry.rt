@@ -1,4 +1,4 @@
-//! Finds what is wrong with a refused entry, or what makes an entry a text.
+//! Finds what is wrong with a refused entry, or why an entry became a text.
 
 use crate::bytes::text_of;
 use crate::entry_hint::EntryHint;
@@ -14,12 +14,13 @@ use ps_value::LABEL_BYTES;
 /// Signs of currencies.
 const CURRENCIES: [&str; 6] = ["$", "\u{20ac}", "\u{a3}", "\u{a5}", "\u{a2}", "\u{20b9}"];
 
-/// Dashes that are no minus sign.
+/// Dashes that people write for the minus sign `-`.
 const DASHES: [&str; 3] = ["\u{2212}", "\u{2013}", "\u{2010}"];
 
-/// Returns the hint about an entry; `refusal` is why it was refused, or none if it was taken.
+/// Returns the hint about an entry, or `None` if there is nothing to say. `refusal` is why the entry was refused, or
+/// `None` if it was accepted.
 ///
-/// An entry that was taken has a hint only if it is a text that looks like a number or a formula.
+/// An accepted entry has a hint only if it became a text although it looks like a number or a formula.
 ///
 /// Cost: O(n) in the n bytes of the entry; O(n * n) for a refused formula, which has at most 512 bytes.
 pub fn hint_of_entry(entry: &[u8], refusal: Option<Refusal>) -> Option<Hint<'_>> {
@@ -53,7 +54,7 @@ fn text_hint(entry: &[u8]) -> EntryHint<'_> {
     }
 }
 
-/// Returns why an entry that was taken is a text, if it looks like a number or a formula.
+/// Returns why an accepted entry became a text, if it looks like a number or a formula.
 fn habit_of(entry: &[u8]) -> Option<Habit> {
     if is_understood(entry) {
         return None;
@@ -74,8 +75,8 @@ fn habit_of(entry: &[u8]) -> Option<Habit> {
     number_habit(trimmed)
 }
 
-/// Returns whether an entry that was taken is what it looks like: a number, a formula, a counter, a set, or a text
-/// after an apostrophe.
+/// Returns whether an accepted entry is what it looks like: a number, a formula, a counter, a set, or a text after an
+/// apostrophe.
 fn is_understood(entry: &[u8]) -> bool {
     is_number_or_formula(entry) || entry.starts_with(b"'")
 }
@@ -106,7 +107,8 @@ fn is_marker_in_capitals(entry: &[u8]) -> bool {
             .is_some_and(|front| front.eq_ignore_ascii_case(b"of:="))
 }
 
-/// Returns whether an entry looks like a formula without its sign: a function with a parenthesis, or a reference.
+/// Returns whether an entry looks like a formula without its `=`: a function with its parentheses, or a reference in
+/// brackets.
 fn looks_unsigned(entry: &[u8]) -> bool {
     if entry.starts_with(b"[.") && entry.contains(&b']') {
         return true;
@@ -127,7 +129,7 @@ fn looks_unsigned(entry: &[u8]) -> bool {
     false
 }
 
-/// Returns the text without the first of `fronts` that stands at its front; none if none does.
+/// Returns the text without the first of `fronts` that it begins with, or `None` if it begins with none of them.
 fn without_front<'a>(text: &'a [u8], fronts: &[&str]) -> Option<&'a [u8]> {
     for front in fronts {
         if let Some(rest) = text.strip_prefix(front.as_bytes()) {
@@ -137,7 +139,7 @@ fn without_front<'a>(text: &'a [u8], fronts: &[&str]) -> Option<&'a [u8]> {
     None
 }
 
-/// Returns the text without the first of `ends` that stands at its end; none if none does.
+/// Returns the text without the first of `ends` that it ends with, or `None` if it ends with none of them.
 fn without_end<'a>(text: &'a [u8], ends: &[&str]) -> Option<&'a [u8]> {
     for end in ends {
         if let Some(rest) = text.strip_suffix(end.as_bytes()) {
@@ -168,7 +170,7 @@ fn number_habit(text: &[u8]) -> Option<Habit> {
 }
 
 /// Returns what keeps a text without a sign from being a number, if it looks like one: digits with one point, with
-/// commas or with an exponent. Of digits alone it is their size.
+/// commas or with an exponent. Digits alone are taken for a number that is too large.
 fn looks_numeric(text: &[u8]) -> Option<Habit> {
     let mut digits = 0;
     let mut points = 0;

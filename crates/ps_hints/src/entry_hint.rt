@@ -1,20 +1,20 @@
-//! What a hint says about an entry that is no formula.
+//! What a hint says about an entry, apart from the grammar of formulas.
 
 use crate::habit::Habit;
 use std::fmt;
 
-/// A hint about an entry that is refused and no formula, or that is kept as a text.
+/// A hint about an entry that was refused for its bytes or its length, or that became a text.
 #[derive(Clone, Copy, Debug)]
 pub enum EntryHint<'a> {
-    /// An entry of this many bytes, and the most bytes of one.
+    /// An entry, or a text, that is too long: the number of its bytes, and the most that it may have.
     TooLong(usize, usize),
-    /// A byte that no text may have.
+    /// A control character, which no text may have.
     Control(u8),
     /// Bytes that aren't UTF-8.
     NotUtf8,
     /// A text without any byte.
     Empty,
-    /// An entry that is kept as a text, and why.
+    /// An entry that became a text, and why.
     Kept(&'a str, Habit),
 }
 

@@ -28,9 +28,9 @@ const SIGNS: [(&str, &str); 18] = [
     ("}", ")"),
 ];
 
-/// Returns the hint about a refused formula, which has its sign `=` or `of:=` at its front.
+/// Returns the hint about a refused formula, which begins with `=` or `of:=`.
 ///
-/// It is about the first place from the left with a known fault, or else about what the whole formula lacks.
+/// The hint is about the leftmost fault that is known, or else about what the whole formula lacks.
 pub(crate) fn hint_of_formula(entry: &[u8]) -> FormulaHint<'_> {
     let text = without_sign(entry);
     for start in 0..text.len() {
@@ -42,7 +42,7 @@ pub(crate) fn hint_of_formula(entry: &[u8]) -> FormulaHint<'_> {
     hint_of_whole(text)
 }
 
-/// Returns what follows the sign of a formula.
+/// Returns what follows the `=` or `of:=` of a formula.
 fn without_sign(entry: &[u8]) -> &[u8] {
     if let Some(text) = entry.strip_prefix(b"of:=") {
         return text;
@@ -50,7 +50,8 @@ fn without_sign(entry: &[u8]) -> &[u8] {
     entry.strip_prefix(b"=").unwrap_or(entry)
 }
 
-/// Returns what is wrong where the rest begins.
+/// Returns what is wrong with the word or the sign at the front of `rest`; `before` is the formula up to there. Inside
+/// brackets it returns `None`, since the hint about a `[` covers all up to its `]`.
 fn hint_at<'a>(before: &'a [u8], rest: &'a [u8]) -> Option<FormulaHint<'a>> {
     if is_bracketed(before) {
         return None;
@@ -76,7 +77,7 @@ fn hint_at<'a>(before: &'a [u8], rest: &'a [u8]) -> Option<FormulaHint<'a>> {
     }
 }
 
-/// Returns whether a bracket is open at the end of the text.
+/// Returns whether the text has a `[` without a `]` after it.
 fn is_bracketed(before: &[u8]) -> bool {
     let mut open = false;
     for byte in before {
@@ -89,7 +90,7 @@ fn is_bracketed(before: &[u8]) -> bool {
     open
 }
 
-/// Returns the word at the front, with the points in it, and what follows it.
+/// Returns the word at the front of `rest`, with the points in it, and what follows the word.
 fn front_word(rest: &[u8]) -> (&[u8], &[u8]) {
     let count = rest
         .iter()
@@ -98,7 +99,7 @@ fn front_word(rest: &[u8]) -> (&[u8], &[u8]) {
     rest.split_at(count)
 }
 
-/// Returns what is wrong with the word that begins here.
+/// Returns what is wrong with the word at the front of `rest`.
 fn word_hint(rest: &[u8]) -> Option<FormulaHint<'_>> {
     let (word, after) = front_word(rest);
     let text = text_of(word)?;
@@ -128,7 +129,7 @@ fn number_hint<'a>(word: &'a [u8], text: &'a str) -> Option<FormulaHint<'a>> {
     }
 }
 
-/// Returns what is wrong with a point that begins here.
+/// Returns what is wrong with the point at the front of `rest`.
 fn point_hint(rest: &[u8]) -> Option<FormulaHint<'_>> {
     let (word, _) = front_word(rest);
     let text = text_of(word)?;
@@ -139,7 +140,7 @@ fn point_hint(rest: &[u8]) -> Option<FormulaHint<'_>> {
     Some(FormulaHint::Point(text))
 }
 
-/// Returns what is wrong with a word before a colon.
+/// Returns what is wrong with a word outside brackets and a colon after it; `others` is what follows the colon.
 fn range_hint<'a>(text: &'a str, word: &'a [u8], others: &'a [u8]) -> Option<FormulaHint<'a>> {
     let (last, _) = front_word(others);
     let last = last.strip_prefix(b".").unwrap_or(last);
@@ -159,7 +160,7 @@ fn function_of(name: &[u8]) -> Option<Function> {
     None
 }
 
-/// Returns what is wrong with a name; `has_arguments` says whether a parenthesis follows it.
+/// Returns what is wrong with a name outside brackets; `has_arguments` says whether a parenthesis follows it.
 fn name_hint<'a>(word: &'a [u8], text: &'a str, has_arguments: bool) -> Option<FormulaHint<'a>> {
     match function_of(word) {
         Some(_) if has_arguments => None,
@@ -172,7 +173,7 @@ fn name_hint<'a>(word: &'a [u8], text: &'a str, has_arguments: bool) -> Option<F
     }
 }
 
-/// Returns what is wrong with the bracket that begins here.
+/// Returns what is wrong with the reference or the range whose `[` is at the front of `rest`.
 fn bracket_hint<'a>(before: &'a [u8], rest: &'a [u8]) -> Option<FormulaHint<'a>> {
     let (inside, after) = split_part(rest.strip_prefix(b"[")?, b']');
     let Some(after) = after else {
@@ -184,7 +185,7 @@ fn bracket_hint<'a>(before: &'a [u8], rest: &'a [u8]) -> Option<FormulaHint<'a>>
     }
 }
 
-/// Returns what is wrong inside the brackets of a reference.
+/// Returns what is wrong with the text for one cell inside brackets.
 fn corner_hint(inside: &[u8]) -> Option<FormulaHint<'_>> {
     let name = inside.strip_prefix(b".").unwrap_or(inside);
     let text = text_of(name)?;
@@ -219,7 +220,7 @@ fn corners_hint<'a>(first: &'a [u8], last: &'a [u8]) -> Option<FormulaHint<'a>> 
     }
 }
 
-/// Returns what is wrong with the place of a range.
+/// Returns a hint if a range, between `before` and `after`, isn't an argument of a function that takes ranges.
 fn alone_hint<'a>(before: &'a [u8], after: &'a [u8]) -> Option<FormulaHint<'a>> {
     let begins = match last_filled(before) {
         Some(b'(') => takes_ranges(before),
@@ -236,7 +237,7 @@ fn alone_hint<'a>(before: &'a [u8], after: &'a [u8]) -> Option<FormulaHint<'a>> 
     Some(FormulaHint::RangeAlone)
 }
 
-/// Returns whether a function that takes ranges stands before the parenthesis at the end.
+/// Returns whether `before` ends with the name of a function that takes ranges, and its `(`.
 fn takes_ranges(before: &[u8]) -> bool {
     let call = before.trim_ascii();
     let name = call.strip_suffix(b"(").unwrap_or(call).trim_ascii();
@@ -245,7 +246,7 @@ fn takes_ranges(before: &[u8]) -> bool {
         .any(|due| ends_as(name, due))
 }
 
-/// Returns whether a text ends with this one, in letters of any case.
+/// Returns whether `text` ends with `end`, in letters of any case.
 fn ends_as(text: &[u8], end: &[u8]) -> bool {
     if text.len() < end.len() {
         return false;
@@ -253,7 +254,7 @@ fn ends_as(text: &[u8], end: &[u8]) -> bool {
     text[text.len() - end.len()..].eq_ignore_ascii_case(end)
 }
 
-/// Returns what is wrong with an argument that ends here.
+/// Returns what is wrong with the argument that ends before `sign`, a `;` or a `)`.
 fn argument_hint<'a>(before: &'a [u8], sign: u8) -> Option<FormulaHint<'a>> {
     match last_filled(before) {
         Some(b';') => Some(FormulaHint::MissingArgument),
@@ -263,7 +264,7 @@ fn argument_hint<'a>(before: &'a [u8], sign: u8) -> Option<FormulaHint<'a>> {
     }
 }
 
-/// Returns what is wrong with a sign that begins here.
+/// Returns what is wrong with the sign at the front of `rest`.
 fn sign_hint(rest: &[u8]) -> Option<FormulaHint<'_>> {
     for (sign, due) in SIGNS {
         if rest.starts_with(sign.as_bytes()) {

@@ -12,7 +12,7 @@ pub enum FormulaHint<'a> {
     BareCell(&'a str),
     /// A range without brackets, by its two cells.
     BareRange(&'a str, &'a str),
-    /// A reference in brackets without its dot, or in small letters.
+    /// A cell in brackets without its dot, or in small letters; or the example `A1` for brackets without a cell.
     Reference(&'a str),
     /// A range in brackets without one of its dots, or in small letters.
     Range(&'a str, &'a str),
@@ -20,7 +20,7 @@ pub enum FormulaHint<'a> {
     OtherSheet,
     /// Whole columns or whole rows.
     Columns,
-    /// A range that is no argument of a function.
+    /// A range that is no argument of a function that takes ranges.
     RangeAlone,
     /// A cell outside of the grid.
     Outside(&'a str),
@@ -28,7 +28,7 @@ pub enum FormulaHint<'a> {
     UnknownFunction(&'a str),
     /// A function without parentheses.
     NoArguments(&'a str),
-    /// A function of no arguments without parentheses.
+    /// `TRUE` or `FALSE` without parentheses, in letters of any case.
     Truth(&'a str),
     /// A comma.
     Comma,

@@ -1,8 +1,9 @@
-//! Why an entry that looks like a number or a formula is kept as a text.
+//! Why an entry that looks like a number or a formula became a text.
 
 use std::fmt;
 
-/// Why an entry that looks like a number or a formula is kept as a text.
+/// Why an entry that looks like a number or a formula became a text: what people write by habit, and numbers or
+/// formulas don't have here.
 #[derive(Clone, Copy, Debug, PartialEq, Eq)]
 pub enum Habit {
     /// A decimal point.
@@ -21,9 +22,9 @@ pub enum Habit {
     Exponent,
     /// A dash that isn't ASCII's minus sign.
     Dash,
-    /// A formula without its sign.
+    /// A formula without its `=`.
     Unsigned,
-    /// A truth value.
+    /// `TRUE` or `FALSE`, which are functions here.
     Truth,
     /// `@tally`, `@choice` or `of:=` in letters of another case.
     Capitals,

@@ -1,18 +1,19 @@
-//! Hints.
+//! A hint of any kind.
 
 use crate::entry_hint::EntryHint;
 use crate::formula_hint::FormulaHint;
 use crate::line_hint::LineHint;
 use std::fmt;
 
-/// What to do about a refused line or entry, or about an entry that is kept as a text. Its text is part of one line.
+/// What to do about a refused line or entry, or about an entry that became a text. `Display` writes it without a line
+/// feed.
 #[derive(Clone, Copy, Debug)]
 pub enum Hint<'a> {
-    /// About a formula.
+    /// About a refused formula.
     Formula(FormulaHint<'a>),
-    /// About an entry that is no formula, or that is too long.
+    /// About the bytes or the length of an entry, or about an entry that became a text.
     Entry(EntryHint<'a>),
-    /// About the words of a line.
+    /// About the words of a line or the records of a table, or about what the sheet refused.
     Line(LineHint<'a>),
 }
 

@@ -5,11 +5,11 @@
 //! write by habit, such as `A1` for `[.A1]`, so it may miss what was meant. These functions have no contract: they are
 //! safe, they end, and they take no memory.
 //!
-//! - [`line_note`] says where a line of a session stands, and what to do about it.
-//! - [`field_note`] says the same of a field of a table, and [`record_note`] of a whole record.
+//! - [`line_note`] returns the note about a line of a session: its number, why it was refused, and what to do about it.
+//! - [`field_note`] returns the same about a field of a table, and [`record_note`] about a whole record.
 //!
-//! Their results are texts by `Display`. For example, line 291 is `set B1 =A1+1`, which is refused as a formula. Its
-//! note is `line 291: err 3 formula: A1 is written [.A1]`. Line 12 is `set B1 12.50`, which is carried out. Its note is
+//! `Display` writes a note as text. For example, line 291 is `set B1 =A1+1`, which is refused as a formula. Its note is
+//! `line 291: err 3 formula: A1 is written [.A1]`. Line 12 is `set B1 12.50`, which is carried out. Its note is
 //! `line 12: 12.50 is kept as a text: numbers are whole`.
 //!
 //! Cost: O(n) in the n bytes of the line or the field; O(n * n) for a refused formula, which has at most 512 bytes.

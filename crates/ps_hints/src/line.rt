@@ -8,10 +8,10 @@ use crate::names::is_nearly_cell;
 use ps_grid::Refusal;
 use ps_lines::{Verb, split_part, split_word};
 
-/// Returns the hint about a line; `refusal` is why it was refused, or none if it was carried out.
+/// Returns the hint about a line, or `None` if there is nothing to say. `refusal` is why the line was refused, or
+/// `None` if it was carried out.
 ///
-/// A line that was carried out has a hint only if the entry that it sets is a text that looks like a number or a
-/// formula.
+/// A line that was carried out has a hint only if its entry became a text although it looks like a number or a formula.
 ///
 /// Cost: O(n) in the n bytes of the line; O(n * n) for a refused formula, which has at most 512 bytes.
 pub fn hint_of_line(line: &[u8], refusal: Option<Refusal>) -> Option<Hint<'_>> {
@@ -27,7 +27,7 @@ pub fn hint_of_line(line: &[u8], refusal: Option<Refusal>) -> Option<Hint<'_>> {
     }
 }
 
-/// Returns the entry of a line that sets a cell.
+/// Returns the entry of a `set` line, or `None` for any other line.
 fn entry_of(line: &[u8]) -> Option<&[u8]> {
     let (verb, rest) = split_word(line);
     let Some(Verb::Set) = Verb::read(verb) else {
@@ -92,7 +92,7 @@ fn command_hint<'a>(line: &'a [u8], word: &'a [u8]) -> LineHint<'a> {
     LineHint::UnknownVerb(text)
 }
 
-/// Returns what is wrong with a line whose verb is known: a space too many, or another form.
+/// Returns what is wrong with a line whose verb is known: two spaces in a row, or the number of its words.
 fn form_hint<'a>(line: &'a [u8], verb: Verb) -> LineHint<'a> {
     let mut last = b'x';
     for byte in line {
@@ -163,7 +163,7 @@ fn rectangle_hint(word: &[u8]) -> LineHint<'_> {
     LineHint::NoCell
 }
 
-/// Returns the corner that has small letters.
+/// Returns the word that the hint is about: the corner with small letters, or the whole rectangle if it has a `$`.
 fn word_of_case<'a>(word: &'a [u8], first: &'a [u8], last: &'a [u8]) -> &'a [u8] {
     if word.contains(&b'$') {
         return word;

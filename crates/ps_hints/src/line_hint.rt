@@ -1,4 +1,4 @@
-//! What a hint says about the words of a line.
+//! What a hint says about the words of a line, about what the sheet refuses, and about the records of a table.
 
 use crate::case::{Capitals, Small};
 use ps_grid::REPLICAS;
@@ -6,64 +6,64 @@ use ps_lattice::{AMOUNT_LIMIT, COUNT_LIMIT, OPTIONS, SEQUENCES};
 use ps_lines::Verb;
 use std::fmt;
 
-/// A hint about a line whose words are refused, or that the sheet refuses.
+/// A hint about a line whose words are refused or that the sheet refuses, or about a record of a table.
 #[derive(Clone, Copy, Debug)]
 pub enum LineHint<'a> {
-    /// A word that has to be in capitals.
+    /// The name of a cell with small letters.
     InCapitals(&'a str),
-    /// A verb that has to be in small letters.
+    /// A verb with capitals.
     InSmall(&'a str),
     /// A first word that is no verb.
     UnknownVerb(&'a str),
     /// A line without a verb.
     NoVerb,
-    /// Another form than lines of this verb have.
+    /// A line of this verb that has a word too few or too many.
     Form(Verb),
-    /// An empty word: a space too many.
+    /// A space too many: at an end of the line, or after another space.
     Spaces,
-    /// A word that names no cell.
+    /// A word that names no cell of the grid.
     NoCell,
     /// A cell with a bracket or a dollar sign.
     PlainCell,
     /// A word that is no rectangle.
     NoRectangle,
-    /// An amount out of range, or none.
+    /// A word that is no amount in range.
     Amount,
-    /// A number with a point.
+    /// An amount or an option with a point.
     Point(&'a str),
     /// An amount with a sign.
     Negative,
-    /// An option out of range, or none.
+    /// A word that is no option in range.
     OptionRange,
     /// A cell that has no counter.
     NoTally(&'a str),
     /// A cell that has no set.
     NoChoice(&'a str),
-    /// A counter of a replica that is full.
+    /// A counter in which this replica's count has reached its limit.
     TallyFull,
-    /// A set whose sequences are used up.
+    /// A set in which this replica has chosen as often as it may.
     ChoiceFull,
     /// An option that isn't in the set.
     NotChosen,
-    /// A register whose clock has its last time.
+    /// A cell that was set at the last time that there is.
     ClockFull,
-    /// A `push` or `merge` whose rest is no line of a delta.
+    /// A `push` or `merge` with something else than the line of a delta.
     NoDelta,
-    /// A reply instead of the line of a delta.
+    /// A `push` or `merge` with a whole reply to `pull`, instead of the line of a delta in it.
     WholeReply,
-    /// A delta that has no line, as it is too long.
+    /// A delta that is too long for a line.
     LongDelta,
     /// A line that is too long.
     LongLine,
-    /// No version, or no size of a group.
+    /// A version that doesn't exist, or a number of deltas out of range.
     NoVersion,
-    /// The number of a replica out of range, or none.
+    /// A word that is no replica's number.
     Replica,
     /// A table with more than this many records.
     Records(usize),
     /// A record with more than this many fields.
     Fields(usize),
-    /// A line that was refused as out of memory.
+    /// A line for which there was no memory.
     NoMemory,
     /// A refusal whose cause is not in the line.
     Outside,

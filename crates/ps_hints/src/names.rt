@@ -2,8 +2,8 @@
 
 use ps_grid::Cell;
 
-/// Returns the letters and the digits of a word: letters, then digits, perhaps with a `$` before each; none for another
-/// word.
+/// Returns the letters and the digits of a word that is letters and then digits, perhaps with a `$` before each.
+/// Returns `None` for any other word.
 fn parts_of(word: &[u8]) -> Option<(&[u8], &[u8])> {
     let word = word.strip_prefix(b"$").unwrap_or(word);
     let letters = word
@@ -18,7 +18,7 @@ fn parts_of(word: &[u8]) -> Option<(&[u8], &[u8])> {
     Some((letters, digits))
 }
 
-/// Returns whether a word is meant as a cell's name, in the grid or outside: one to three letters and digits.
+/// Returns whether a word is meant as a cell's name, in the grid or outside: one to three letters, then digits.
 pub(crate) fn is_meant_as_cell(word: &[u8]) -> bool {
     match parts_of(word) {
         Some((letters, _)) => letters.len() <= 3,
@@ -26,7 +26,7 @@ pub(crate) fn is_meant_as_cell(word: &[u8]) -> bool {
     }
 }
 
-/// Returns whether a word names a cell of the grid, apart from case and `$`.
+/// Returns whether a word names a cell of the grid, in letters of any case and with or without `$`.
 pub(crate) fn is_nearly_cell(word: &[u8]) -> bool {
     let Some((letters, digits)) = parts_of(word) else {
         return false;
@@ -41,8 +41,8 @@ pub(crate) fn is_nearly_cell(word: &[u8]) -> bool {
     }
 }
 
-/// Returns whether a word is a corner of a reference: a cell's name, perhaps with a `$` before its letters and its
-/// digits.
+/// Returns whether a word is a cell's name as references have it: in capitals, perhaps with a `$` before the letters
+/// and before the digits.
 pub(crate) fn is_corner(word: &[u8]) -> bool {
     is_nearly_cell(word) && !word.iter().any(|byte| byte.is_ascii_lowercase())
 }

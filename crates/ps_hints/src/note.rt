@@ -1,4 +1,4 @@
-//! A hint with its place.
+//! Notes: hints with the lines, fields or records that they are about.
 
 use crate::entry::hint_of_entry;
 use crate::hint::Hint;
@@ -7,33 +7,32 @@ use crate::line_hint::LineHint;
 use ps_grid::{COLUMNS, Cell, NAME_BYTES, ROWS, Refusal};
 use std::fmt;
 
-/// The place of a line or an entry.
+/// What a note is about, by its position in the input.
 #[derive(Clone, Copy, Debug)]
 pub enum HintPlace {
-    /// A line, counted from 1.
+    /// The line with this number, from 1 on.
     Line(u64),
-    /// The field of a table for this cell.
+    /// The field of a table that becomes this cell's entry.
     Field(Cell),
-    /// A record of a table, counted from 1.
+    /// The record of a table with this number, from 1 on.
     Record(u64),
 }
 
-/// A hint with its place and the refusal. Its text is one line, without its line feed.
+/// A hint, with its position and the refusal. `Display` writes it as one line, without a line feed.
 #[derive(Clone, Copy, Debug)]
 pub struct HintNote<'a> {
-    /// The place of the line or the entry.
+    /// The position of the line, the field or the record.
     pub place: HintPlace,
-    /// Why it was refused; none if it was taken.
+    /// Why the line, the field's entry or the record was refused; `None` if it was accepted.
     pub refusal: Option<Refusal>,
     /// What to do.
     pub hint: Hint<'a>,
 }
 
-/// Returns the note about line `number`, counted from 1; `refusal` is why it was refused, or none if it was carried
-/// out.
+/// Returns the note about line `number`, counted from 1, or `None` if there is nothing to say. `refusal` is why the
+/// line was refused, or `None` if it was carried out.
 ///
-/// A line that was carried out has a note only if the entry that it sets is a text that looks like a number or a
-/// formula.
+/// A line that was carried out has a note only if its entry became a text although it looks like a number or a formula.
 ///
 /// Cost: that of [`hint_of_line`].
 pub fn line_note(number: u64, line: &[u8], refusal: Option<Refusal>) -> Option<HintNote<'_>> {
@@ -44,9 +43,10 @@ pub fn line_note(number: u64, line: &[u8], refusal: Option<Refusal>) -> Option<H
     })
 }
 
-/// Returns the note about the field for a cell; `refusal` is why its entry was refused, or none if it was taken.
+/// Returns the note about a table's field for `cell`, or `None` if there is nothing to say. `refusal` is why the
+/// field's entry was refused, or `None` if it was accepted.
 ///
-/// An entry that was taken has a note only if it is a text that looks like a number or a formula.
+/// An accepted entry has a note only if it became a text although it looks like a number or a formula.
 ///
 /// Cost: that of [`hint_of_entry`].
 pub fn field_note(cell: Cell, field: &[u8], refusal: Option<Refusal>) -> Option<HintNote<'_>> {
@@ -57,7 +57,8 @@ pub fn field_note(cell: Cell, field: &[u8], refusal: Option<Refusal>) -> Option<
     })
 }
 
-/// Returns the note about record `number`, counted from 1, which lies outside of the grid or has too many fields.
+/// Returns the note about record `number` of a table, counted from 1. The record lies below the grid's last row, or
+/// else has more fields than the grid has columns.
 pub fn record_note<'a>(number: u64) -> HintNote<'a> {
     let hint = if number > ROWS as u64 {
         LineHint::Records(ROWS)

@@ -52,7 +52,7 @@ at_start view = record {
   passed = λ k d lt. absurd (omega (arith, lt));
 }
 
--- what is passed is neither merged nor told
+-- a passed change is neither merged nor written
 passes_merged : (old new : Course) → Passes old new → old.merged ≡ new.merged
 passes_merged old new (inl p) = ap (λ course. course.merged) (sym p)
 passes_merged old new (inr p) = ap (λ course. course.merged) (sym p.1)
@@ -88,7 +88,7 @@ module _ (first mid : RelayView) (course : Course) (r : HasRelayed first mid cou
         (subst (Appends first.contents mid.contents) (passes_told r.before course r.passes) r.asked.sent) sent);
   }
 
--- at one place: what is relayed up to it, and is to come there
+-- at one position: what is relayed up to it, and is to come there
 module _ (first : RelayView) (old new : PeerView) (to_come before contents : Option (List ℕ)) (course : Course)
     (r : HasRelayed first (seen old to_come before) course) where
   -- a group, written

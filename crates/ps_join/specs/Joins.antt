@@ -16,13 +16,13 @@ use Rattle.ps_peers.specs.Peers.{IsPut, IsReplied, PeerView, PutsSome}
 abbrev pub merge_text : List ℕ → List ℕ
 merge_text delta = codes "merge " ++ (delta ++ 10 ∷ [])
 
--- what a join knows of a peer
+-- what a join knows of a peer: one side of the join
 pub record Side : Type 0 where
-  -- how many of its changes were pulled, or were brought to it
+  -- how many of its changes, from the first on, were pulled or came from the other peer
   pub position : ℕ
-  -- the delta lines that it returned to pulls, in order
+  -- the delta lines that the peer returned to pulls, in order
   pub handed : List (List ℕ)
-  -- the delta lines that were merged at it, in order
+  -- the delta lines that were merged at the peer, in order
   pub merged : List (List ℕ)
   -- whether the last pull had the reply `end`
   pub is_whole : Bool
@@ -30,17 +30,17 @@ pub record Side : Type 0 where
 abbrev pub fresh : Side
 fresh = record { position = 0; handed = []; merged = []; is_whole = false }
 
--- after a group that it returned, up to this version
+-- a side after the peer returned a group, up to this version
 abbrev pub gave : Side → List ℕ → ℕ → Side
 gave side delta last =
     record { position = last; handed = side.handed ++ delta ∷ []; merged = side.merged; is_whole = false }
 
--- .. after its `end`
+-- .. after the peer's `end`
 abbrev pub ended : Side → Side
 ended side =
     record { position = side.position; handed = side.handed; merged = side.merged; is_whole = true }
 
--- .. after a delta that was merged at it
+-- .. after a delta was merged at the peer
 abbrev pub took : Side → List ℕ → ℕ → Side
 took side delta next =
     record { position = next; handed = side.handed; merged = side.merged ++ delta ∷ []; is_whole = side.is_whole }
@@ -79,13 +79,13 @@ abbrev pub Waits : Answering Side
 Waits old line request new = (more : List ℕ) × EndsWait more × (request ≡ wait_text old.position ++ more)
     × TellsNews old.position (without_return line) × (new ≡ old)
 
--- EXCHANGES: one of these; there are waits only where `waits` says so
+-- EXCHANGES: one of these four; a wait only if `waits` says so
 abbrev pub Exchanges : Bool → Answering Side
 Exchanges waits old line request new =
     Gives old line request new ⊎ Ends old line request new ⊎ Takes old line request new
     ⊎ ((waits ≡ true) × Waits old line request new)
 
--- all that was asked of a peer, and replied, came to this
+-- from the first view to the last, the requests to a peer and its replies lead from a fresh side to this one
 pub record HasTalked (waits : Bool) (first last : PeerView) (side : Side) : Type 0 where
   pub replies : List (List ℕ)
   pub each : All HasNoFeed replies
@@ -94,7 +94,7 @@ pub record HasTalked (waits : Bool) (first last : PeerView) (side : Side) : Type
   pub run : Run (Exchanges waits) fresh replies requests side
   pub asked : Appends first.asked last.asked requests
 
--- JOINING: all requests had their replies, and what was merged at each peer is just what the other returned, in order,
+-- JOINING: all requests had their replies. What was merged at each peer is exactly what the other returned, in order,
 -- each once
 pub record IsJoining (waits : Bool) (from0 from1 to0 to1 : PeerView) (from to : Side) : Type 0 where
   pub from_talked : HasTalked waits from0 from1 from
@@ -102,7 +102,7 @@ pub record IsJoining (waits : Bool) (from0 from1 to0 to1 : PeerView) (from to : 
   pub there : to.merged ≡ from.handed
   pub back : from.merged ≡ to.handed
 
--- JOINED: all of the one was pulled, and then all of the other, whose `end` is the last reply
+-- JOINED: all of `from` was pulled, and then all of `to`, whose `end` is the last reply
 pub record IsJoined (from0 from1 to0 to1 : PeerView) : Type 0 where
   pub from : Side
   pub to : Side
@@ -111,21 +111,21 @@ pub record IsJoined (from0 from1 to0 to1 : PeerView) : Type 0 where
   pub to_whole : to.is_whole ≡ true
   pub last : TellsEnd (without_return to1.line) to.position
 
--- what may be asked next of a peer, where these groups of the other one are in hand
+-- what may be asked of a peer next, while these groups of the other peer are in hand: pulled, and not merged yet
 abbrev pub MayAsk : Bool → Side → List (List ℕ) → List ℕ → Type 0
 MayAsk waits side hand request =
     (request ≡ pull_text side.position)
     ⊎ ((delta : List ℕ) × (hand ≡ delta ∷ []) × (request ≡ merge_text delta))
     ⊎ ((waits ≡ true) × ((more : List ℕ) × EndsWait more × (request ≡ wait_text side.position ++ more)))
 
--- a beginning of a request was put, and at most one line came
+-- a beginning of a request was sent, and at most one line came
 pub record IsBroken (waits : Bool) (side : Side) (hand : List (List ℕ)) (old new : PeerView) : Type 0 where
   pub request : List ℕ
   pub may : MayAsk waits side hand request
   pub put : PutsSome old.asked new.asked request
   pub taken : TakesLine old.to_come new.to_come
 
--- nothing came from a peer, and nothing was asked but to wait
+-- nothing came from a peer, and nothing was sent to it, except for a wait
 abbrev pub IsIdle : Bool → Side → PeerView → PeerView → Type 0
 IsIdle waits side old new = (new ≡ old) ⊎ ((waits ≡ true) × IsPut (wait_text side.position) old new)
 
@@ -134,8 +134,8 @@ abbrev pub IsBrokenAt : End → Type 0 → Type 0 → Type 0 → Type 0 → Type
 IsBrokenAt ends.From from_broken from_idle to_broken to_idle = from_broken × to_idle
 IsBrokenAt ends.To from_broken from_idle to_broken to_idle = to_broken × from_idle
 
--- STOPPED: they were joining up to some reply of each, except for at most one group in hand, which wasn't merged at the
--- other peer, or whose merge had no due reply. It broke off at this end
+-- STOPPED: the peers were joining up to some reply of each. At most one group is left in hand: it wasn't merged at the
+-- other peer, or its merge had no due reply. The exchange broke off at this end
 pub record IsStopped (waits : Bool) (end : End) (from0 from1 to0 to1 : PeerView) : Type 0 where
   pub from_middle : PeerView
   pub to_middle : PeerView
@@ -161,7 +161,7 @@ abbrev pub turned_end : End → End
 turned_end ends.From = ends.To
 turned_end ends.To = ends.From
 
--- .. joining up to here, at these positions; whether the one that merges was whole stays so
+-- the peers are joining up to here, at these positions; `whole` says whether all of `to` was pulled
 pub record IsReached (waits whole : Bool) (at : Positions) (from0 from1 to0 to1 : PeerView) : Type 0 where
   pub from : Side
   pub to : Side
@@ -170,12 +170,12 @@ pub record IsReached (waits whole : Bool) (at : Positions) (from0 from1 to0 to1 
   pub to_at : to.position ≡ at.to
   pub kept : to.is_whole ≡ whole
 
--- .. and all of the one that returns was pulled
+-- .. and all of `from` was pulled
 pub record IsCarried (waits whole : Bool) (at : Positions) (from0 from1 to0 to1 : PeerView) : Type 0 where
   pub reached : IsReached waits whole at from0 from1 to0 to1
   pub from_whole : reached.from.is_whole ≡ true
 
--- .. and all of each was pulled
+-- .. and all of each peer was pulled
 pub record IsBothWays (waits : Bool) (at : Positions) (from0 from1 to0 to1 : PeerView) : Type 0 where
   pub from : Side
   pub to : Side
@@ -185,38 +185,39 @@ pub record IsBothWays (waits : Bool) (at : Positions) (from0 from1 to0 to1 : Pee
   pub from_whole : from.is_whole ≡ true
   pub to_whole : to.is_whole ≡ true
 
--- whatever was exchanged before, if they were joining at these positions, then what follows holds
+-- whatever was exchanged before: if the peers were joining at these positions, then what follows holds
 abbrev pub Later : Positions → PeerView → PeerView → (Bool → Bool → PeerView → PeerView → Type 0) → Type 0
 Later start from1 to1 Then = (waits : Bool) (from0 to0 : PeerView) (from to : Side)
     → IsJoining waits from0 from1 to0 to1 from to → from.position ≡ start.from → to.position ≡ start.to
     → Then waits to.is_whole from0 to0
 
--- a peer that was asked to wait replied, and these bytes were put
+-- these bytes were sent to a waiting peer, and it replied to the wait
 abbrev pub IsEnded : List ℕ → ℕ → PeerView → PeerView → Type 0
 IsEnded more position old new = IsReplied more old new × TellsNews position (without_return new.line)
 
--- .. or a beginning of them was put, and no due reply came
+-- .. or a beginning of them was sent, and no due reply came
 abbrev pub IsUnended : List ℕ → PeerView → PeerView → Type 0
 IsUnended more old new = PutsSome old.asked new.asked more × TakesLine old.to_come new.to_come
 
--- .. after the first peer's reply was read with no more bytes, the other's with an empty line; it broke off here
+-- .. for two waiting peers: the reply of `from` is read after no bytes, and that of `to` after an empty line; it broke
+-- off at this end
 abbrev pub AreUnended : End → Positions → PeerView → PeerView → PeerView → PeerView → Type 0
 AreUnended ends.From at from0 from1 to0 to1 = IsUnended [] from0 from1 × (to1 ≡ to0)
 AreUnended ends.To at from0 from1 to0 to1 = IsUnended (10 ∷ []) to0 to1 × IsEnded [] at.from from0 from1
 
--- a whole wait
+-- a whole wait: its request, what ended it, and its reply
 abbrev pub IsWaited : ℕ → PeerView → PeerView → Type 0
 IsWaited position old new = (more : List ℕ) × EndsWait more × IsEnded (wait_text position ++ more) position old new
 
--- .. that broke off
+-- .. or it broke off
 abbrev pub IsUnwaited : ℕ → PeerView → PeerView → Type 0
 IsUnwaited position old new = (more : List ℕ) × EndsWait more × IsUnended (wait_text position ++ more) old new
 
--- .. while this was so at the other peer
+-- what the other peer did meanwhile: nothing, it was sent a wait, or it waited to the end
 abbrev pub IsBeside : ℕ → PeerView → PeerView → Type 0
 IsBeside position old new = (new ≡ old) ⊎ IsPut (wait_text position) old new ⊎ IsWaited position old new
 
--- .. at this end
+-- a wait of both peers broke off at this end
 abbrev pub AreUnwaited : End → Positions → PeerView → PeerView → PeerView → PeerView → Type 0
 AreUnwaited ends.From at from0 from1 to0 to1 = IsUnwaited at.from from0 from1 × IsBeside at.to to0 to1
 AreUnwaited ends.To at from0 from1 to0 to1 = IsUnwaited at.to to0 to1 × IsBeside at.from from0 from1

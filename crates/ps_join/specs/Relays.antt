@@ -1,4 +1,4 @@
--- What a relay asks its server, and that it writes each change there but those that came in by it.
+-- What a relay asks its server. It writes each change of the server, except for those that came in.
 use Rattle.std.specs.Prelude.{◌≡◌, ◌≢◌, ◌⊎◌, ◌<◌, ◌≤◌, ◌+◌, ℕ, true, List, [], ◌∷◌, ◌++◌, Option, Some, None}
 use Rattle.std.specs.Prelude.{codes, nat_eq}
 use Rattle.std.specs.Io.KnownBytes.{Appends, Consumes, IsAtEnd}
@@ -18,9 +18,9 @@ use Rattle.ps_peers.specs.declared.peer_pull.SyncFault.TheVariants.{Refused}
 
 -- the progress of a relay
 pub record Course : Type 0 where
-  -- each change of the server up to this number was written, or came in
+  -- each change of the server up to this number was written or came in
   pub position : ℕ
-  -- the numbers that changes that came in have at the server
+  -- the numbers that the server gave to changes that came in
   pub numbers : List ℕ
   -- the merge lines that came in and had a reply, in order
   pub merged : List ℕ
@@ -30,7 +30,7 @@ pub record Course : Type 0 where
 abbrev pub unbegun : Course
 unbegun = record { position = 0; numbers = []; merged = []; told = [] }
 
--- after a group of changes that was written, up to this number
+-- a course after a group of changes was written, up to this number
 abbrev pub tells : Course → List ℕ → ℕ → Course
 tells course delta last = record {
   position = last;
@@ -39,7 +39,7 @@ tells course delta last = record {
   told = course.told ++ merge_text delta;
 }
 
--- .. after a delta that came in, which became the changes of these numbers: one or none
+-- .. after a delta that came in became the changes of these numbers: one or none
 abbrev pub takes : Course → List ℕ → List ℕ → Course
 takes course delta numbers = record {
   position = course.position;
@@ -57,13 +57,13 @@ moved_to course position =
 abbrev pub AreOutside : List ℕ → ℕ → ℕ → Type 0
 AreOutside numbers first last = All (λ n. (n ≤ first) ⊎ (last < n)) numbers
 
--- a change that came in, and whose number is the next one, may be passed
+-- the position may pass the next change if that came in
 abbrev pub Passes : Course → Course → Type 0
 Passes old new =
     (new ≡ old) ⊎ (Contains old.numbers (old.position + 1) × (new ≡ moved_to old (old.position + 1)))
 
--- the reply to a merge: the change has this number, which is none that was passed; or all was known; or it is refused,
--- and not since all seats are taken
+-- the reply to a merge: the change has this number, which is after the position; or the server knew all of it; or the
+-- server refused it, and not because all session slots are taken
 abbrev pub IsTaken : ℕ → List ℕ → Brought → Type 0
 IsTaken position reply (broughts.Anew number) =
     (number_after reply (codes "ok ") ≡ Some number) × (position < number)
@@ -99,14 +99,14 @@ abbrev pub Awaits : Answering Course
 Awaits old line request new = (more : List ℕ) × EndsWait more × (request ≡ wait_text old.position ++ more)
     × TellsNews old.position (without_return line) × (new ≡ old)
 
--- RELAYS: one of these, after what may be passed
+-- RELAYS: one of these four, perhaps after the position passed a change that came in
 abbrev pub Relays : Answering Course
 Relays old line request new = (from : Course) × Passes old from
     × (Hands from line request new ⊎ IsThrough from line request new ⊎ Brings from line request new
     ⊎ Awaits from line request new)
 
--- what a relay works with: its server, the merge lines that come in and have had no reply yet, where they are shown,
--- and what was written
+-- what a relay works with: its server, the merge lines that come in and have had no reply yet, if they are shown, and
+-- what was written
 pub record RelayView : Type 0 where
   pub server : PeerView
   pub to_come : Option (List ℕ)
@@ -115,7 +115,8 @@ pub record RelayView : Type 0 where
 abbrev pub seen : PeerView → Option (List ℕ) → Option (List ℕ) → RelayView
 seen server to_come contents = record { server = server; to_come = to_come; contents = contents }
 
--- all that was asked, and replied, came to this; what was merged is what came in, and what was reported was written
+-- the requests to the server and its replies lead from an unbegun course to this one. What was merged is what came in,
+-- and the text of the course was written
 pub record HasAsked (first last : RelayView) (course : Course) : Type 0 where
   pub replies : List (List ℕ)
   pub each : All HasNoFeed replies
@@ -126,7 +127,7 @@ pub record HasAsked (first last : RelayView) (course : Course) : Type 0 where
   pub came : Consumes first.to_come last.to_come course.merged
   pub sent : Appends first.contents last.contents course.told
 
--- RELAYED: .. and a change that came in may be passed then
+-- RELAYED: .. and then the position may pass a change that came in
 pub record HasRelayed (first last : RelayView) (course : Course) : Type 0 where
   pub before : Course
   pub asked : HasAsked first last before
@@ -146,15 +147,16 @@ MayAskNext course held request =
     ⊎ (request ≡ merge_text held)
     ⊎ ((more : List ℕ) × EndsWait more × (request ≡ wait_text course.position ++ more))
 
--- what was written of a group up to a number that is due, where the output failed: a beginning; else nothing
+-- what was written of a group that is due, up to its number. If the output failed, that is a beginning of it; else
+-- nothing
 abbrev pub IsCutAt : RelayFault → (ℕ → Type 0) → ℕ → PeerView → Option (List ℕ) → Option (List ℕ) → Type 0
 IsCutAt faults.Output IsDueTo position server before contents = (delta : List ℕ) × (last : ℕ)
     × IsGroup position (without_return server.line) last delta × IsDueTo last
     × PutsSome before contents (merge_text delta)
 IsCutAt (faults.Server fault) IsDueTo position server before contents = contents ≡ before
 
--- HALTED: it relayed up to some reply. Then a beginning of a request was put, and at most one line came. At most a
--- beginning of that was written
+-- HALTED: it relayed up to some reply. Then a beginning of a request was sent, and at most one line came. At most a
+-- beginning of that line's text was written
 pub record IsHalted (fault : RelayFault) (held : List ℕ) (first last : RelayView) : Type 0 where
   pub middle : RelayView
   pub course : Course
@@ -167,12 +169,13 @@ pub record IsHalted (fault : RelayFault) (held : List ℕ) (first last : RelayVi
   pub cut : IsCutAt fault (AreOutside course.numbers course.position) course.position last.server middle.contents
       last.contents
 
--- a device failed, where the fault is that one did
+-- if the fault says that a device failed, one did
 abbrev pub HasFailed : RelayFault → Type 0 → Type 0 → Type 0
 HasFailed faults.Output server_failed output_failed = output_failed
 HasFailed (faults.Server fault) server_failed output_failed = fault ≡ Refused Device → server_failed
 
--- a pull of at most so many changes after a position: what it returned was written, up to this number, or there is none
+-- the outcome of a pull of at most `most` changes after a position: a group was written, up to this number, or there is
+-- none
 abbrev pub IsHanded : ℕ → ℕ → PeerView → PeerView → Option (List ℕ) → Option (List ℕ) → Option ℕ → Type 0
 IsHanded position most old new before contents (Some last) = IsReplied (pull_most position most) old new
     × ((delta : List ℕ) × IsGroup position (without_return new.line) last delta × (last ≤ position + most)
@@ -187,21 +190,22 @@ pub record IsUnhanded (fault : RelayFault) (position most : ℕ) (old new : Peer
   pub taken : TakesLine old.to_come new.to_come
   pub cut : IsCutAt fault (λ last. last ≤ position + most) position new before contents
 
--- whatever was relayed before, up to this position, where nothing that came in lies after it and up to the limit
+-- whatever was relayed before, up to this position: if no change after it and up to the limit came in, what follows
+-- holds
 abbrev pub Onward : ℕ → ℕ → PeerView → Option (List ℕ)
     → ((first : RelayView) → Option (List ℕ) → Course → Type 0) → Type 0
 Onward position limit server contents Then = (first : RelayView) (to_come : Option (List ℕ)) (course : Course)
     → HasAsked first (seen server to_come contents) course → course.position ≡ position
     → AreOutside course.numbers position limit → Then first to_come course
 
--- .. this was asked further, up to the position
+-- .. it was relayed further, up to this position
 pub record IsOnward (position : ℕ) (numbers : List ℕ) (first last : RelayView) : Type 0 where
   pub course : Course
   pub asked : HasAsked first last course
   pub here : course.position ≡ position
   pub same : course.numbers ≡ numbers
 
--- all that came in was passed
+-- the position has passed all changes that came in
 abbrev pub ArePassed : Course → Type 0
 ArePassed course = All (λ n. n ≤ course.position) course.numbers
 

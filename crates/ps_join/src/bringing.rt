@@ -1,4 +1,4 @@
-//! One delta that came in, merged at the server.
+//! Merges one delta of an intake at the server.
 ghost use Rattle.std.specs.Prelude.{◌≡◌, ◌≢◌, ◌<◌, Err, IfOk, IfSome, OnErr, OnOk, true};
 ghost use Rattle.std.specs.Io.KnownBytes.{Consumes};
 ghost use Rattle.ps_grid.specs.declared.refusal.Refusal.TheVariants as Refusal;
@@ -17,21 +17,22 @@ use ps_lines::reply_words::{ERR, OK, SAME};
 use ps_peers::{Peer, SyncFault, fault_of, number_after, refused};
 use std::alloc::Global;
 
-/// What a server replies that has no seat for a session. Then it merges nothing, whatever it is asked.
+/// The reply of a server without a free session slot. Such a server merges nothing, so the delta isn't settled.
 const NO_SEAT: &[u8] = b"err 21 seat";
 
 /// What became of a delta that came in.
 #[derive(Clone, Copy)]
 pub(crate) enum Brought {
-    /// It became the change of this number.
+    /// It became the server's change with this number.
     Anew(u64),
-    /// All of it was known, and there are so many changes.
+    /// The server knew all of it, and has this many changes.
     Known(u64),
     /// The server refused it.
     Refused,
 }
 
-/// What became of a delta, by the reply to its merge; none where it is no such reply.
+/// Returns what became of a delta, by the server's reply to its merge. Returns `None` if the reply doesn't fit: the
+/// number of an `ok` has to be greater than the position.
 fn brought_by(reply: &[u8], position: u64) -> Option<Brought>
     ensures { IfSome result (IsTaken position reply.now) }
 {
@@ -51,7 +52,8 @@ fn brought_by(reply: &[u8], position: u64) -> Option<Brought>
     }
 }
 
-/// The fault of a server whose reply to a merge isn't due.
+/// Returns the fault for a reply that doesn't fit a merge: `PeerRefused` if the server has no free session slot, else
+/// `Line`.
 fn untaken(alloc: Global, reply: &[u8]) -> SyncFault
     ensures { result ≢ Refused Refusal.Device }
 {
@@ -62,7 +64,7 @@ fn untaken(alloc: Global, reply: &[u8]) -> SyncFault
     }
 }
 
-/// Merges the delta in hand at a server, and settles it.
+/// Merges the delta in hand at a server, and settles it. If no reply comes that fits, the delta stays in hand.
 pub(crate) fn bring<S: Source + Drop, K: Sink + Drop, I: Intake>(
     alloc: Global,
     server: &mut Peer<S, K>,

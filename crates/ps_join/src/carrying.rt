@@ -1,4 +1,4 @@
-//! What one peer has, carried to the other.
+//! Carries what one peer has to the other: pulls it, and merges it there.
 ghost use Rattle.std.specs.Prelude.{◌≡◌, ◌<◌, ◌≤◌, IfErr, IfOk, OnOk};
 ghost use Rattle.ps_grid.specs.declared.refusal.Refusal.TheVariants as Refusal;
 ghost use Rattle.ps_join.specs.Joins.{IsCarried, IsFailed, IsStopped, Later, turned_end};
@@ -14,7 +14,8 @@ use ps_lines::LARGEST_GROUP;
 use ps_peers::{Due, Peer, SyncFault, next_due};
 use std::alloc::Global;
 
-/// How many changes of each peer were carried, or came from the other one.
+/// The positions at both peers. A position is how many of a peer's changes, from the first on, were pulled or came from
+/// the other peer.
 #[derive(Clone, Copy)]
 pub(crate) struct Positions {
     pub from: u64,
@@ -22,7 +23,7 @@ pub(crate) struct Positions {
 }
 
 impl Positions {
-    /// The same from the other end.
+    /// Returns the positions with the two peers exchanged.
     pub(crate) fn turned(self) -> Positions
         ensures from { result.from ≡ self.to }
         ensures to { result.to ≡ self.from }
@@ -34,7 +35,7 @@ impl Positions {
     }
 }
 
-/// The same fault from the other end.
+/// Returns the fault with the two peers exchanged.
 pub(crate) fn turned_fault(fault: JoinFault) -> JoinFault
     ensures end { result.end ≡ turned_end fault.end }
     ensures fault { result.fault ≡ fault.fault }
@@ -48,7 +49,7 @@ pub(crate) fn turned_fault(fault: JoinFault) -> JoinFault
     }
 }
 
-/// Pulls what `from` has after its position, to its end, and merges each group at `to`.
+/// Pulls what `from` has after its position, to its `end`, and merges each group at `to`. Returns the new positions.
 pub(crate) fn carry<S: Source + Drop, K: Sink + Drop, T: Source + Drop, M: Sink + Drop>(
     alloc: Global,
     from: &mut Peer<S, K>,

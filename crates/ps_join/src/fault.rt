@@ -1,12 +1,12 @@
 //! Why a join ends, or a relay.
 use ps_peers::SyncFault;
 
-/// Which of the two peers of a join.
+/// One of the two peers of a join.
 #[derive(Clone, Copy, Debug, PartialEq, Eq)]
 pub enum End {
-    /// The one whose changes go first.
+    /// The first peer, `from`: its changes are carried first.
     From,
-    /// The other one.
+    /// The other peer, `to`.
     To,
 }
 
@@ -15,7 +15,7 @@ pub enum End {
 pub struct JoinFault {
     /// the peer where it ended
     pub end: End,
-    /// what that peer did, or its connection
+    /// what happened there: the fault of that peer or of its connection
     pub fault: SyncFault,
 }
 

@@ -1,4 +1,4 @@
-//! Where the deltas come from that a relay merges.
+//! The source of the deltas that a relay merges.
 ghost use Rattle.std.specs.Prelude.{◌≡◌, ℕ, Bool, List, Option, true};
 ghost use Rattle.std.specs.Io.KnownBytes.{Consumes, IsAtEnd};
 ghost use Rattle.ps_join.specs.Joins.{merge_text};
@@ -6,7 +6,7 @@ ghost use Rattle.ps_join.specs.Joins.{merge_text};
 /// What came in at an [`Intake`].
 #[derive(Clone, Copy)]
 pub enum Came {
-    /// A delta, which is in hand now.
+    /// A delta, which the intake holds until it is settled.
     Delta,
     /// Nothing for now.
     Nothing,
@@ -14,11 +14,12 @@ pub enum Came {
     Ended,
 }
 
-/// Deltas that come in, one after another.
+/// A source of deltas for a relay, one after another.
 ///
-/// One that is in hand stays there until it is settled, also where a server is lost.
+/// At most one delta is in hand: [`Intake::next`] takes it, and the intake holds it until [`Intake::settle`]. It stays
+/// in hand even if the connection to the server is lost. So a later relay merges it again.
 pub trait Intake {
-    /// The lines that merge what wasn't settled so far, where the intake shows them.
+    /// The merge lines of all deltas that aren't settled yet, if the intake shows them.
     ghost to_come: { Self → Option (List ℕ) };
 
     /// The line of the delta in hand.
@@ -27,7 +28,7 @@ pub trait Intake {
     /// Whether a delta is in hand.
     ghost holds: { Self → Bool };
 
-    /// Takes the next delta in hand, if none is in hand, and returns what is in hand then. It doesn't wait.
+    /// Takes the next delta in hand, unless one is in hand already, and returns whether one is. It doesn't wait.
     fn next(&mut self) -> Came
         ensures same { to_come self.new ≡ to_come self.old }
         ensures held { result ≡ Came.Delta → holds self.new ≡ true }
@@ -37,16 +38,16 @@ pub trait Intake {
     fn delta(&self) -> &[u8]
         ensures { result.now ≡ held self.now };
 
-    /// Settles the delta in hand: it was merged, or refused by this reply.
+    /// Ends the hold on the delta in hand. The server has merged it, or refused it with the `err` reply `refusal`.
     ///
     /// Cost: linear in the bytes of the reply.
     fn settle(&mut self, refusal: Option<&str>)
         requires held { holds self.old ≡ true }
         ensures settled { Consumes (to_come self.old) (to_come self.new) (merge_text (held self.old)) };
 
-    /// Returns once a delta came in, the server has sent something, or a while has passed.
+    /// Returns once a delta came in, the server sent something, or a while passed.
     ///
-    /// Cost: its own, and the time until then.
+    /// Cost: the implementation's own, and the time that it waits.
     fn await_more(&mut self)
         ensures same { to_come self.new ≡ to_come self.old }
         ensures held { held self.new ≡ held self.old };

@@ -1,4 +1,4 @@
-//! Two peers that get what the other one has.
+//! Joins two peers: each gets what the other has.
 ghost use Rattle.std.specs.Prelude.{◌≡◌, ◌<◌, ◌≤◌, IfErr, IfOk, OnOk, false, true};
 ghost use Rattle.ps_grid.specs.declared.refusal.Refusal.TheVariants as Refusal;
 ghost use Rattle.ps_join.specs.Joins.{IsBothWays, IsFailed, IsJoined, IsStopped, Later};
@@ -13,7 +13,8 @@ use ps_device::{Sink, Source};
 use ps_peers::Peer;
 use std::alloc::Global;
 
-/// Carries what `from` has after its position to `to`, and then what `to` has back.
+/// Merges at `to` what `from` has after its position, and then at `from` what `to` has after its own. Returns the new
+/// positions.
 fn carry_both<S: Source + Drop, K: Sink + Drop, T: Source + Drop, M: Sink + Drop>(
     alloc: Global,
     from: &mut Peer<S, K>,
@@ -40,11 +41,21 @@ fn carry_both<S: Source + Drop, K: Sink + Drop, T: Source + Drop, M: Sink + Drop
     }
 }
 
-/// Carries all that one peer has to another, and then all that this one has back: the changes after version 0, in
-/// groups, each merged before the next is pulled.
+/// Merges all changes of `from` at `to`, and then those of `to` at `from`. They travel in groups, and each is merged
+/// before the next is pulled.
 ///
-/// A fault is refused as `Device` only where a connection of that peer fails, and as `Line` where its reply isn't due.
-/// A peer's `err` is a fault of its own. What was merged before stays merged.
+/// The way back leaves out the first changes of `to` if the replies to the merges show that they came from `from`. What
+/// was merged before a fault stays merged.
+///
+/// # Errors
+///
+/// The fault names its peer.
+///
+/// - `Device`: the connection to the peer failed.
+/// - `Line`: a reply of the peer doesn't fit its request, or it broke off.
+/// - `Memory`: allocation failed.
+/// - `PeerRefused`: the peer replied `err`.
+/// - `Closed`: the peer closed its connection.
 ///
 /// Cost: linear in the bytes of the lines, besides the wait for the peers.
 pub fn join_once<S: Source + Drop, K: Sink + Drop, T: Source + Drop, M: Sink + Drop>(
@@ -64,11 +75,11 @@ pub fn join_once<S: Source + Drop, K: Sink + Drop, T: Source + Drop, M: Sink + D
     }
 }
 
-/// Carries all that each of two peers has to the other, and then each change that one of them gets, until one of them
-/// fails, refuses or closes.
+/// Joins two peers as [`join_once`] does, and then carries over each change that one of them gets, until one of them
+/// fails, refuses or closes. Returns that fault, one of those of [`join_once`].
 ///
-/// Between changes both are asked to wait for more, and `attention` says which to read first. The wait of the other is
-/// ended by an empty line. A fault is as at [`join_once`].
+/// Between changes both peers wait for more (`wait`), and `attention` says whose reply to read first. An empty line
+/// ends the wait of the other.
 ///
 /// Cost: linear in the bytes of the lines, besides the wait for the peers.
 pub fn join<S: Source + Drop, K: Sink + Drop, T: Source + Drop, M: Sink + Drop, A: Attention>(

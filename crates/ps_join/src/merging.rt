@@ -1,4 +1,4 @@
-//! One delta, merged at a peer.
+//! Merges one delta at a peer.
 ghost use Rattle.std.specs.Prelude.{◌≡◌, ◌<◌, Err, IfOk, IfSome, OnErr, flat_map};
 ghost use Rattle.ps_grid.specs.declared.refusal.Refusal.TheVariants as Refusal;
 ghost use Rattle.ps_join.specs.Joins.{IsMerged, Moves, merge_text};
@@ -13,9 +13,10 @@ use ps_lines::reply_words::{OK, SAME};
 use ps_peers::{Peer, PeerReply, SyncFault, fault_of, number_after, read_reply, refused};
 use std::alloc::Global;
 
-/// The position at a peer after a merge that became its change of this number.
+/// Returns the position at a peer after a merge that became the peer's change with this number.
 ///
-/// Only the very next one moves it. Before one that comes later there are changes of others.
+/// Only the number right after the position moves it. Before a later one lie changes of others, which are still to be
+/// pulled.
 fn moved(position: u64, number: u64) -> u64
     ensures { Moves position number result }
 {
@@ -26,7 +27,8 @@ fn moved(position: u64, number: u64) -> u64
     }
 }
 
-/// The position at a peer after its reply to a merge; none where that is no such reply.
+/// Returns the position at a peer after its reply to a merge. Returns `None` if the reply isn't `ok` or `same` with a
+/// number.
 fn position_after(reply: &[u8], position: u64) -> Option<u64>
     ensures { IfSome result (IsMerged position reply.now) }
 {
@@ -39,7 +41,7 @@ fn position_after(reply: &[u8], position: u64) -> Option<u64>
     }
 }
 
-/// Returns the pieces of the line that merges the delta of this line, with its line feed.
+/// Returns the pieces of a merge line: `merge`, the delta's line and a line feed.
 pub(crate) fn merge_pieces(delta: &[u8]) -> [&[u8]; 3]
     ensures { flat_map (λ piece. piece.now) result ≡ merge_text delta.now }
 {

@@ -1,4 +1,4 @@
-//! What comes in, merged at a server, and what the server gets from others, written.
+//! Merges at a server what comes in, and writes what the server gets from others.
 ghost use Rattle.std.specs.Prelude.{◌≡◌, ◌⊎◌, ◌<◌, ◌≤◌, [], ℕ, List, Err, IfErr, IfOk, OnErr, OnOk, true};
 ghost use Rattle.std.specs.Io.KnownBytes.{Appends};
 ghost use Rattle.ps_join.specs.Joins.{IsUnwaited, IsWaited, merge_text};
@@ -35,8 +35,8 @@ fn write_merge<O: Sink>(delta: &[u8], out: &mut O) -> Result<(), Failed>
     }
 }
 
-/// Pulls at most so many changes after a position, and writes them. Returns the position after them, or none where
-/// there are none.
+/// Pulls at most `most` changes after a position, and writes them as a merge line. Returns the position after them, or
+/// `None` if there are none.
 fn hand_group<S: Source + Drop, K: Sink + Drop, O: Sink>(
     alloc: Global,
     server: &mut Peer<S, K>,
@@ -69,7 +69,7 @@ fn hand_group<S: Source + Drop, K: Sink + Drop, O: Sink>(
     }
 }
 
-/// Writes the changes after one number and up to another.
+/// Pulls the changes after number `start` and up to number `limit`, and writes them.
 fn hand_between<S: Source + Drop, K: Sink + Drop, O: Sink>(
     alloc: Global,
     server: &mut Peer<S, K>,
@@ -103,8 +103,8 @@ fn hand_between<S: Source + Drop, K: Sink + Drop, O: Sink>(
     Ok(())
 }
 
-/// Merges the delta in hand at the server, and writes the changes of others that its reply tells of. Returns the
-/// position after them, and after the change that the delta became.
+/// Merges the delta in hand at the server, and writes the changes of others up to the number in the server's reply.
+/// Returns the position after them, and after the change that the delta became.
 fn take_in<S: Source + Drop, K: Sink + Drop, I: Intake, O: Sink>(
     alloc: Global,
     server: &mut Peer<S, K>,
@@ -167,20 +167,21 @@ fn await_more<S: Source + Drop, K: Sink + Drop, I: Intake>(
     end_wait(alloc, server, position, empty_line.as_slice())
 }
 
-/// Merges at a server each delta that comes in, and writes each change of the server that didn't come in, as merge
-/// lines, from the first one on. Each line is flushed at once.
+/// Merges each delta of `intake` at a server, and writes the server's other changes to `out` as merge lines, from its
+/// first one on. It flushes each line at once.
 ///
-/// It ends once no more comes in, and the server has no more. Until then it waits for either, at the server by a
-/// `wait`, which an empty line ends.
+/// It returns once `intake` has ended and the server has no more changes. Until then it waits for either. At the server
+/// it does so by a `wait`, which it ends with an empty line.
 ///
-/// The reply `ok n` to a merge says which change the delta became. So the changes before it are pulled, and that one is
-/// left out. A delta that the server refuses is settled, and the next one follows.
+/// The reply `ok n` to a merge says that the delta became change `n` of the server. So the relay pulls and writes the
+/// changes before `n`, and leaves `n` out. A delta that the server refuses is settled with the refusal, and the next
+/// one follows.
 ///
 /// # Errors
 ///
 /// - `Output`: `out` failed.
-/// - `Server`: the connection failed or was closed, a reply isn't due, or a pull or a wait was refused. A delta in hand
-///   that had no reply stays in hand.
+/// - `Server`: the connection failed or was closed, a reply doesn't fit its request, or the server refused a pull or a
+///   wait or has no free session slot. Also when out of memory. A delta in hand that had no reply stays in hand.
 ///
 /// Cost: linear in the bytes of the lines, besides the wait for the server and for the intake.
 pub fn relay<S: Source + Drop, K: Sink + Drop, I: Intake, O: Sink>(

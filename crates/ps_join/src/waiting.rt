@@ -10,16 +10,18 @@ use ps_device::{Sink, Source};
 use ps_peers::{Peer, SyncFault, due_news, fault_of, put_wait};
 use std::alloc::Global;
 
-/// Says at which of two peers that were both asked to wait something came first. Any answer is right: a wrong one waits
-/// longer.
+/// Says which of two waiting peers to read first. Any answer is right, but after a wrong one the join waits longer.
+///
+/// Both peers were sent a `wait`, and reply once they have more changes.
 pub trait Attention {
-    /// Returns once something came from one of the two, or a while has passed.
+    /// Returns a peer that sent something, or whose connection ended. After a while without either it returns any.
     ///
-    /// Cost: its own, and the time that the peers take.
+    /// Cost: the implementation's own, and the time until a peer sends something.
     fn next(&mut self) -> End;
 }
 
-/// Reads the reply to a wait, after bytes that may end it, and that have no reply of their own.
+/// Sends a waiting peer `more`, and reads its reply to the wait. `more` is nothing, or an empty line, which ends the
+/// wait and has no reply of its own.
 pub(crate) fn end_wait<S: Source + Drop, K: Sink + Drop>(
     alloc: Global,
     peer: &mut Peer<S, K>,
@@ -36,7 +38,8 @@ pub(crate) fn end_wait<S: Source + Drop, K: Sink + Drop>(
     }
 }
 
-/// Reads the reply of the peer that spoke, and then ends the wait of the other.
+/// Reads the reply of the peer that spoke, and then ends the wait of the other. In the positions and the fault, the
+/// peer that spoke is `From`.
 fn end_waits<S: Source + Drop, K: Sink + Drop, T: Source + Drop, M: Sink + Drop>(
     alloc: Global,
     spoke: &mut Peer<S, K>,

@@ -1,4 +1,4 @@
--- A journal into which what a history has more is noted.
+-- A journal to which the later changes of a history are added.
 use Rattle.std.proofs.Common.{◌≡◌, ◌+◌, ◌-◌, ◌≤◌, ℕ, List, [], ◌∷◌, ◌++◌, length, take, drop, map, sym, ap, ◌∙◌}
 use Rattle.std.proofs.Common.{append_assoc, arith, subst, length-append, Bool, false, Result, Ok, Err}
 use Rattle.std.specs.Prelude.{OnErr, OnOk, is_err}
@@ -90,7 +90,7 @@ module _ (replica : ℕ) (history : List Entries) (old : JournalView) (fits : Is
     begins = ([], append-nil history);
   }
 
--- what was kept outlives a crash
+-- what was durable outlives a crash
 pub kept_outlives : (replica : ℕ) (history kept : List Entries) (old mid : JournalView) (written : List ℕ)
     → IsKept replica kept old → IsNoted replica history mid → mid.kept ≡ old.kept → mid.synced ≡ old.synced
     → IsFresh history → SurvivesCrashes written mid.synced mid.kept mid.lines
@@ -100,7 +100,7 @@ kept_outlives replica history kept old mid written is noted same_lines same_coun
     (outlives replica kept noted.noted history mid.kept mid.lines written mid.synced is.all.0
     (subst (λ ls. IsPrefix is.all.0 ls) (sym same_lines) is.all.1) is.all.2 noted.told noted.begins fresh survives)
 
--- the device wasn't called
+-- noting calls no device, and what was durable outlives a crash
 pub noting_outlives : (replica : ℕ) (history kept : List Entries) (old mid : JournalView) (ds : List Entries)
     → IsKept replica kept old → IsNoted replica history mid → Notes old ds mid → IsFresh history
     → Outlives replica kept history mid.written old.synced

@@ -90,7 +90,7 @@ say_pushed (line ∷ lines) (d ∷ h) said plain all say =
     let others = say_pushed lines h say.1 (All-tail (λ l. without_return l ≡ l) line lines plain) all.1 say.3 in
     say.4 ∙ (λ i. first i ++ others i)
 
--- whose they are, and their deltas
+-- the replica of the lines, and their deltas
 record Said (replica : ℕ) (history : List Entries) (told : Option ℕ) (deltas : List Entries) : Type 0 where
   same : deltas ≡ history
   line : told_line told ≡ replica_line replica ++ 10 ∷ []
@@ -119,7 +119,7 @@ nothing : (c : ℕ) → state_of [] c ≡ empty_cell
 unfolding state_of
 nothing c = refl
 
--- where cells in order stand in two parts, what one of the second holds the first part doesn't
+-- where cells in order are divided in two parts, no cell of the second part is in the first
 apart : (n : ℕ) (xs ys : Entries) (c : ℕ) → Rising n (cells_of (xs ++ ys)) → state_of ys c ≢ empty_cell
     → (state_of xs c ≡ empty_cell) × (state_of (xs ++ ys) c ≡ state_of ys c)
 apart n [] ys c r some = (nothing c, refl)
@@ -179,7 +179,7 @@ none_joined c = refl
 pub divided_fresh : (ds : List Entries) → Rising 0 (cells_of (cells_in ds)) → All IsDelta ds → IsFresh ds
 divided_fresh ds r each = fresh_on 0 [] ds r each (λ c some. none_joined c) none_fresh
 
--- deltas that say nothing are none
+-- if the join of these deltas is empty, there are no deltas
 say_nothing : (ds : List Entries) → Rising 0 (cells_of (cells_in ds)) → All IsDelta ds
     → joined_history ds ≡ joined_history [] → ds ≡ []
 say_nothing [] r each none = refl
@@ -205,7 +205,7 @@ push_are : (ds : List Entries) → AreLines (map push_line ds)
 push_are [] = tt
 push_are (d ∷ ds) = (push_line-is_line d, push_are ds)
 
--- the lines of a replica and of deltas are a file that begins so
+-- the text of a replica's line and of change lines is a file with these whole lines
 begun_of : (replica : ℕ) (ds : List Entries) (bytes : List ℕ) → replica ≤ REPLICAS → IsFresh ds
     → All (λ d. IsDeltaLine (delta_text d) d) ds → bytes ≡ (replica_line replica ++ 10 ∷ []) ++ push_lines ds
     → IsBegun replica bytes ds

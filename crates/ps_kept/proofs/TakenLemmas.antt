@@ -1,4 +1,4 @@
--- What a line of a kept file says, and what its delta comes to.
+-- What a line of a kept file says, and what becomes of its delta.
 use Rattle.std.proofs.Common.{◌≡◌, ◌≢◌, ◌≤◌, ℕ, List, [], ◌∷◌, ◌++◌}
 use Rattle.std.proofs.Common.{subst, sym, Bool, true, false, Result, Ok, Err}
 use Rattle.std.proofs.lemmas.Bool.{false≢true}
@@ -41,7 +41,7 @@ module _ (line : List ℕ) (d : Entries) (pushes : Pushes line d) (x y : Arrival
   not_new false taken off e other =
       other.1 (subst (λ z. IsBelow (state_of z) (joined_history x.deltas)) (pushes_one line d e pushes other.0) taken.0)
 
--- what is said of an answer that there is
+-- what holds of an answer that is no error
 pub of_answer : (r : Result Bool Refusal) (P Q : Bool → Type 0) → ((is : Bool) → P is → Q is) → IfOk r P → IfOk r Q
 of_answer (Ok is) P Q f p = f is p
 of_answer (Err e) P Q f p = tt

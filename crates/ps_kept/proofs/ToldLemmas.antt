@@ -107,7 +107,7 @@ fresh_front h all begins fresh k lt below =
     (subst (λ d. IsBelow (state_of d) (joined_history (take k all))) (sym here)
     (subst (λ l. IsBelow (state_of (get_or h k [])) (joined_history l)) (sym before) below))
 
--- whatever a crash leaves, a start reads it
+-- a start reads the file after any crash
 
 not_none : (kept lines : List (List ℕ)) → kept ≢ [] → IsPrefix kept lines → lines ≢ []
 not_none [] lines some begins is = some refl

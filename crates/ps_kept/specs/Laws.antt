@@ -1,4 +1,4 @@
--- What holds of kept sheets, whatever they hold and wherever a crash comes.
+-- What holds of all kept sheets, at whatever moment a crash comes.
 use Rattle.std.specs.Prelude.{◌≡◌, ◌+◌, ◌<◌, ◌≤◌, ℕ, List, [], length}
 use Rattle.std.specs.List.{All}
 use mathlib.Core.List.{IsPrefix}
@@ -16,37 +16,37 @@ use Rattle.ps_kept.specs.Starts.{IsFaultOf, IsFaulty, Outlives, Reads}
 use Rattle.ps_kept.specs.declared.fault.KeepFault.{KeepFault}
 use Rattle.ps_kept.specs.declared.fault.KeepFault.TheVariants as faults
 
--- LAW: what is noted is a beginning of a longer history, too
+-- LAW: a journal with a beginning of a history has a beginning of each longer history, too
 abbrev pub StaysNoted : Type 0
 StaysNoted =
     (replica : ℕ) (history more : List Entries) (j : JournalView) → IsNoted replica history j
     → IsPrefix history more → IsNoted replica more j
 
--- LAW: from whatever a crash leaves of a file in which a history is kept and a longer one is noted, the next start
--- reads all that was kept, and nothing but a beginning of what was noted
+-- LAW: in the file after a crash, the next start reads a beginning of the history that was noted. It has at least the
+-- changes that were durable
 abbrev pub CrashesKeepSheets : Type 0
 CrashesKeepSheets =
     (replica : ℕ) (kept history : List Entries) (j : JournalView) → IsKept replica kept j
     → IsNoted replica history j → IsFresh history → Outlives replica kept history j.written j.synced
 
--- LAW: one history is read in a file
+-- LAW: a start reads at most one history in a file
 abbrev pub OneHistory : Type 0
 OneHistory =
     (replica : ℕ) (bytes : List ℕ) (h k : List Entries) → Reads replica bytes h → Reads replica bytes k → h ≡ k
 
--- LAW: the lines of a file in which a history is read are refused only when out of memory
+-- LAW: a start refuses the lines of a file with a history only when out of memory
 abbrev pub ReadFilesOpen : Type 0
 ReadFilesOpen =
     (replica : ℕ) (bytes : List ℕ) (history : List Entries) (fault : KeepFault) → 1 ≤ replica → replica ≤ REPLICAS
     → Reads replica bytes history → IsFaultOf replica bytes fault → fault ≡ faults.Memory
 
--- LAW: a start that reads a history leaves a file in which the next one reads the same
+-- LAW: in the file after a start, the next start reads the same history
 abbrev pub ReadAgain : Type 0
 ReadAgain =
     (replica : ℕ) (bytes : List ℕ) (history : List Entries) → replica ≤ REPLICAS → Reads replica bytes history
     → Reads replica (text (started replica (whole_lines bytes))) history
 
--- LAW: .. and so does one that crashes while it cuts the file
+-- LAW: .. also if the first start crashes while it cuts the file
 abbrev pub StartsMayCrash : Type 0
 StartsMayCrash =
     (replica : ℕ) (bytes left : List ℕ) (history : List Entries) → Reads replica bytes history
@@ -58,8 +58,8 @@ ToldLinesHaveNoDigests =
     (replica : ℕ) (lines : List (List ℕ)) (history : List Entries) → replica ≤ REPLICAS
     → TellHistory replica lines history → HaveNoDigests lines
 
--- where a journal's file has digest lines: whatever a crash leaves of it, they are right, and from its other lines a
--- start reads all that was kept, and nothing but a beginning of what was noted
+-- of a journal's file with digest lines: after any crash, its digest lines are right. In its other lines a start reads
+-- a beginning of the history that was noted, with at least the changes that were durable
 abbrev pub OutlivesDigested : ℕ → List Entries → List Entries → List ℕ → ℕ → Type 0
 OutlivesDigested replica kept history raw on_disk =
     (left : List ℕ) → IsLeft raw on_disk left
@@ -74,20 +74,20 @@ CrashesKeepDigested =
     → (HaveNoDigests (whole_lines j.written) → ReadsAfterCrashes raw on_disk j.written j.synced)
     → OutlivesDigested replica kept history raw on_disk
 
--- LAW: where a crash has torn the end of a file, and the next start refuses a line of the rest, that line stands after
--- all that were kept
+-- LAW: a crash may put any bytes after those that were synced. If the next start then refuses a line, this line stands
+-- after all lines that were durable
 abbrev pub FaultsComeAfter : Type 0
 FaultsComeAfter =
     (replica : ℕ) (kept : List Entries) (j : JournalView) (left : List ℕ) (number : ℕ) → IsKept replica kept j
     → IsFresh kept → IsTorn j.written j.synced left → IsFaulty replica (whole_lines left) number
     → length kept + 1 < number
 
--- each line ends in a line feed, and none in a carriage return before it, as in each file that no other program wrote
+-- each line ends in a line feed without a carriage return before it, as in each file that this program alone wrote
 pub record IsPlain (bytes : List ℕ) : Type 0 where
   pub whole : text (whole_lines bytes) ≡ bytes
   pub no_return : All (λ line. without_return line ≡ line) (whole_lines bytes)
 
--- LAW: what a file in which a history is read is squashed to reads as a history with the same join
+-- LAW: a start reads a history with the same join in what a file with a history is squashed to
 abbrev pub SquashedFilesRead : Type 0
 SquashedFilesRead =
     (replica : ℕ) (bytes squashed : List ℕ) (history : List Entries) → 1 ≤ replica → replica ≤ REPLICAS

@@ -1,18 +1,18 @@
-//! Why a kept sheet isn't opened.
+//! Why a sheet isn't opened from its file.
 ghost use Rattle.std.specs.Prelude.{◌≡◌};
 ghost use Rattle.ps_kept.specs.declared.fault.KeepFault.TheVariants.{Memory};
 
 use std::alloc::AllocError;
 
-/// Why a kept sheet isn't opened.
+/// Why [`open_kept`](crate::open_kept) doesn't open a sheet from its file.
 #[derive(Clone, Copy, Debug, PartialEq, Eq)]
 pub enum KeepFault {
     /// Out of memory.
     Memory,
     /// The device failed.
     Device,
-    /// The line with this number, from 1, is invalid. The first line names no replica, or a later one pushes no delta,
-    /// or one that adds nothing to those before it.
+    /// The line with this number, from 1, is invalid: the first line names no replica, or a later one pushes no delta,
+    /// or a delta that adds nothing to those before it.
     Line(u64),
     /// The file belongs to this other replica.
     Replica(u8),

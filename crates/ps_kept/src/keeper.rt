@@ -15,8 +15,9 @@ use ps_sheet::Sheet;
 use std::alloc::Global;
 use std::marker::Model;
 
-/// A keeper that stores the sheet of one replica in a journal. The first line is the replica's number, and each later
-/// one is a change of the history. A contract sees it as its journal, a `JournalView`.
+/// A keeper that makes the sheet of one replica durable in a journal, a file to which lines are appended. The first
+/// line names the replica, and each later one pushes one change of the history. A contract sees the keeper as its
+/// journal, a `JournalView`.
 #[derive(Drop)]
 pub struct SheetKeeper<D: Device + Drop> {
     journal: Journal<D>,
@@ -32,12 +33,12 @@ impl<D: Device + Drop> Model for SheetKeeper<D> {
 
     ghost view = { λ k. k.journal };
 
-    // the first line is the replica's
+    // (the first line names the replica)
     ghost invariant = { λ k. length k.journal.lines ≡ k.noted + 1 };
 }
 
 impl<D: Device + Drop> SheetKeeper<D> {
-    /// Creates a keeper that continues this journal, which has the lines of `noted` changes.
+    /// Creates a keeper that continues this journal, which has the replica's line and the lines of `noted` changes.
     pub(crate) fn new(journal: Journal<D>, noted: u64) -> SheetKeeper<D>
         requires { length journal.lines ≡ noted + 1 }
         ensures { result ≡ journal }
@@ -45,7 +46,7 @@ impl<D: Device + Drop> SheetKeeper<D> {
         SheetKeeper { journal, noted }
     }
 
-    /// Adds the changes that the journal doesn't have yet.
+    /// Adds the changes that the journal doesn't have yet, without a sync.
     fn note_later(&mut self, alloc: Global, history: &[Delta]) -> Result<(), Failed>
         requires within { length self.old.lines ≤ length history.now + 1 }
         ensures all { OnOk result (Notes self.old (later self.old.lines history.now) self.new) }
@@ -69,7 +70,7 @@ impl<D: Device + Drop> Keeper<Sheet> for SheetKeeper<D> {
     ghost use Rattle.std.specs.Prelude.{◌≡◌, false, ⊤};
     ghost use Rattle.ps_kept.specs.Kept.{IsKept, IsNoted};
 
-    // from whatever a crash leaves of the file, the next start reads the whole history
+    // from the file after any crash, the next start reads the whole history
     ghost covers = { λ k sheet. IsKept sheet.replica sheet.history k };
 
     ghost fits = { λ k sheet. IsNoted sheet.replica sheet.history k × (k.has_failed ≡ false) };

@@ -3,19 +3,19 @@ ghost use Rattle.ps_kept.specs.Laws.{CrashesKeepDigested, CrashesKeepSheets, Fau
 ghost use Rattle.ps_kept.specs.Laws.{ReadFilesOpen};
 ghost use Rattle.ps_kept.specs.Laws.{SquashedFilesRead, StartsMayCrash, StaysNoted, ToldLinesHaveNoDigests};
 
-/// States that a journal still fits a history that has grown: it has a beginning of the longer one, too.
+/// States that a journal with a beginning of a history has a beginning of each longer history, too.
 pub fn longer_histories_fit()
     ensures { StaysNoted }
 {}
 
-/// States that, from whatever a crash leaves of a file, the next start reads a beginning of what was added that has all
-/// that was durable.
+/// States that the next start reads the file after a crash. The history that it reads is a beginning of the one that
+/// was written, and has all changes that were durable.
 pub fn crashes_keep_sheets()
     ensures { CrashesKeepSheets }
 {}
 
-/// States the same of a file with digest lines: a crash leaves them right, and the next start reads as much in the
-/// other lines. For no line that tells a history has the form of a digest line.
+/// States what [`crashes_keep_sheets`] states, of a file with digest lines, which are checksums. After a crash they are
+/// right, and the next start reads as much in the other lines. No line of a history has the form of a digest line.
 pub fn crashes_keep_digested_sheets()
     ensures lines { ToldLinesHaveNoDigests }
     ensures crash { CrashesKeepDigested }
@@ -28,20 +28,20 @@ pub fn one_history_is_read()
     ensures opens { ReadFilesOpen }
 {}
 
-/// States that the file after a start reads as it did before, even if the start crashes while it cuts the file.
+/// States that two starts in a row read the same from a file, even if the first crashes while it cuts a torn line off.
 pub fn starts_read_the_same()
     ensures again { ReadAgain }
     ensures crash { StartsMayCrash }
 {}
 
-/// States that a squashed file reads as a history with the same join, of the same replica, where each line ends in a
-/// line feed alone. So a start takes it as it took the file, and shows the same.
+/// States that a start reads a history with the same join, of the same replica, from the squashed lines of a file. So
+/// the sheet shows the same. Each line of the file must end in a line feed, without a carriage return before it.
 pub fn squashed_files_read_the_same()
     ensures { SquashedFilesRead }
 {}
 
-/// States that, in a file whose end a crash has torn, a line that the next start refuses stands after all lines that
-/// were durable.
+/// States that a crash spares the durable lines even if it puts other bytes after them: a line that the next start
+/// refuses stands after all durable lines.
 pub fn faults_come_after_the_kept()
     ensures { FaultsComeAfter }
 {}

@@ -1,11 +1,12 @@
-//! A sheet that is kept in a file, so that it outlives a crash.
+//! A sheet that is stored in a file, so that it outlives a crash.
 //!
-//! The file is text. Its first line names the replica. Each other line pushes one change of the history, in order, so a
-//! session that reads the file shows the sheet. The start is [`open_kept`]: it reads the sheet of a file, and returns
-//! it with a [`SheetKeeper`]. The keeper makes a session's changes durable before the replies about them go out.
+//! The file, a kept file, is text. Its first line names the replica. Each other line pushes one change of the history,
+//! in order, so a session that reads the file as its input shows the sheet. The start is [`open_kept`]: it reads the
+//! sheet of a file, and returns it with a [`SheetKeeper`]. The keeper makes a session's changes durable before the
+//! session sends the replies about them.
 //!
-//! This crate isn't the session: it carries out no commands and writes no replies. It isn't the journal (`ps_keep`). It
-//! starts no thread and takes no lock. It decides which lines a file may have:
+//! This crate isn't the session: it carries out no commands and writes no replies. It isn't the journal (`ps_keep`),
+//! which appends lines to the file and syncs it. It takes no lock. It decides which lines a file may have:
 //!
 //! - The first line names the replica that was asked for.
 //! - Each later line pushes a delta, in any spelling, that adds something to those before it. So each is one change of
@@ -17,9 +18,9 @@
 //!   replica that it can't accept, and returns the file as it was.
 //! - [`SheetKeeper`]'s `sync`: the whole history is durable. At whatever moment a crash comes, the next start reads
 //!   a beginning of the history that has all that was durable (`Outlives`).
-//! - The laws: a file has at most one history, and no start refuses a file that a crash has left. The file after a
-//!   start reads as before. A squashed file reads as a history with the same join. A crash leaves as much of a file
-//!   with digest lines (`DigestedFile` of `ps_keep`).
+//! - The laws: a file has at most one history, and no start refuses the file after a crash. Two starts in a row read
+//!   the same from a file. From the squashed lines of a file a start reads a history with the same join. A file with
+//!   digest lines (`DigestedFile` of `ps_keep`) outlives a crash as well.
 //!
 //! Code that shares a sheet between sessions adds lines by [`note_deltas`].
 //!
@@ -27,8 +28,8 @@
 //! [["A1",[1,1,"5"],[],[]]]`, each with its line feed. A crash in the next write may leave `push [["B1` after them. The
 //! next start reads the one change, and cuts the torn line off.
 //!
-//! Cost: a start is linear in the file, which is in memory once meanwhile. It evaluates each formula once, after the
-//! last line. A sync is linear in the new lines: one append to the file, and one sync of it.
+//! Cost: a start is linear in the file, whose bytes are in memory once meanwhile. It evaluates each formula once, after
+//! the last line. A sync is linear in the new lines: one append to the file, and one sync of it.
 #![tactic(auto)]
 
 mod fault;

@@ -1,4 +1,4 @@
-//! Adding the lines of deltas to a journal.
+//! Adds the lines of deltas to a journal.
 ghost use Rattle.std.specs.Prelude.{◌≡◌, ◌+◌, ◌<◌, ◌≤◌, ◌^◌, ◌∷◌, ℕ, [], OnOk, OnErr, length, take};
 ghost use Rattle.ps_lines.specs.PushLine.{Pushes, push_line};
 ghost use Rattle.ps_kept.specs.Kept.{Notes};
@@ -10,7 +10,7 @@ use ps_keep::{Device, Journal};
 use ps_lines::put_push_line;
 use std::alloc::Global;
 
-/// Replaces the contents of `line` by the line that pushes a delta.
+/// Replaces the contents of `line` by the change line of a delta.
 fn write_line(alloc: Global, delta: &Delta, line: &mut Vec<u8>) -> Result<(), Refusal>
     ensures written { OnOk result (line.new.items ≡ push_line delta.now) }
     ensures pushes { OnOk result (Pushes (push_line delta.now) delta.now) }
@@ -19,7 +19,7 @@ fn write_line(alloc: Global, delta: &Delta, line: &mut Vec<u8>) -> Result<(), Re
     put_push_line(alloc, delta, line)
 }
 
-/// Adds the line of a delta to the journal.
+/// Adds the change line of a delta to the journal; `line` is a buffer for it.
 fn note_delta<D: Device + Drop>(
     alloc: Global,
     journal: &mut Journal<D>,
@@ -37,10 +37,11 @@ fn note_delta<D: Device + Drop>(
     Ok(())
 }
 
-/// Adds the lines of these deltas to the journal, in order, and counts each in `noted`. They aren't durable before the
-/// next sync.
+/// Adds a change line for each of these deltas to the journal, in order, and counts each in `noted`. The lines aren't
+/// durable before the next sync.
 ///
-/// Fails at the first delta whose line is too long, and when out of memory. The lines before it stay in the journal.
+/// Fails at the first delta whose line is too long, and when out of memory. The lines before the failure stay in the
+/// journal.
 ///
 /// Cost: linear in the lines; the device isn't called.
 pub fn note_deltas<D: Device + Drop>(

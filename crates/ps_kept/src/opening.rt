@@ -1,4 +1,4 @@
-//! The start: reading a sheet from its file, and keeping it there from then on.
+//! The start: reads a sheet from its file, and makes it durable there from then on.
 ghost use Rattle.std.specs.Prelude.{◌≡◌, ◌≢◌, ◌⊎◌, ◌+◌, ◌≤◌, [], IfOk, IfErr, false, length};
 ghost use Rattle.ps_grid.specs.declared.parties.TheConstants.{REPLICAS, WORKERS};
 ghost use Rattle.std.specs.List.{All};
@@ -21,7 +21,7 @@ use std::alloc::Global;
 use std::sync::ledger::Ledger;
 use std::thread::Threads;
 
-/// Writes the first line into an empty journal, and syncs it.
+/// Writes the first line, which names the replica, into an empty journal, and syncs it.
 fn begin<D: Device + Drop>(
     alloc: Global,
     mut journal: Journal<D>,
@@ -43,7 +43,8 @@ fn begin<D: Device + Drop>(
     }
 }
 
-/// Opens the journal of a file, and returns the keeper of the sheet with `changes` changes that was read from it.
+/// Opens a file as a journal, writes its first line if it has none, and returns the keeper that continues it. `changes`
+/// is the number of changes that the file has.
 fn keep_on<F: Found + Drop>(
     alloc: Global,
     found: F,
@@ -71,24 +72,27 @@ fn keep_on<F: Found + Drop>(
     }
 }
 
-/// Reads the sheet of a replica, 1 to 32, from its file, and returns it with the keeper that writes there from then on.
-/// `workers`, from 1 to `WORKERS`, share the formulas of a wide level.
+/// Reads the sheet of a replica, 1 to 32, from its file `found`, and returns the sheet with the keeper that writes to
+/// this file from then on.
+///
+/// The sheet may evaluate many formulas at once in up to `workers` threads, 1 to `WORKERS`. `meter` counts the formulas
+/// that are evaluated.
 ///
 /// The first line has to be `replica ` and the number. Each other line has to push a delta that adds something to those
-/// before it. A piece after the last line feed is what a crash left in mid-write, and is cut off. A file without a
+/// before it. A piece after the last line feed comes from a crash during a write, and is cut off. A file without a
 /// whole line must be empty or hold a beginning of the first line, which is then written.
 ///
-/// Each change of the history has a line, so no pull is refused as too long.
+/// Each change of the history fits a line, so no `pull` is refused as too long.
 ///
 /// # Errors
 ///
-/// - `Line`: the number of the first line that isn't as above.
+/// - `Line`: the number of the first line that isn't as above, from 1. It is 1 for a file without a whole line.
 /// - `Replica`: the file belongs to this other replica.
 /// - `Memory`: out of memory.
 /// - `Device`: the device failed.
 ///
-/// `Line` and `Replica` return the file as it was, to the byte. `Memory` does, too, unless the file had no whole line
-/// yet.
+/// With `Line` and `Replica` the result has the file, as it was to the byte. With `Memory` it has the file, too, unless
+/// this had no whole line yet.
 ///
 /// Cost: linear in the file. Each formula that the sheet has in the end is evaluated once.
 pub fn open_kept<R: Threads + Sync, F: Found + Drop, L: Ledger>(

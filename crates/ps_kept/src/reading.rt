@@ -1,4 +1,4 @@
-//! The lines of a kept file, read at the start.
+//! Reads the lines of a kept file at the start.
 ghost use Rattle.std.specs.Prelude.{◌≡◌, ◌⊎◌, ◌+◌, ◌≤◌, ◌++◌, ◌∷◌, [], Err, IfOk, IfErr, OnOk};
 ghost use Rattle.std.specs.Prelude.{None, Some, true, false};
 ghost use Rattle.ps_grid.specs.declared.parties.TheConstants.{REPLICAS, WORKERS};
@@ -22,8 +22,8 @@ use std::alloc::Global;
 use std::sync::ledger::Ledger;
 use std::thread::Threads;
 
-/// Returns the bytes after the first line, which has to name this replica. A file with only a beginning of that line
-/// has none.
+/// Returns the bytes after the first line, which has to name this replica. If the file has only a beginning of that
+/// line, no bytes follow.
 fn after_first<'a>(
     alloc: Global,
     decoder: &mut Decoder,
@@ -49,8 +49,8 @@ fn after_first<'a>(
     }
 }
 
-/// Adds what a line pushes to the arrivals. Returns false where it pushes no delta, or one that adds nothing to those
-/// before it. Then the arrivals are unchanged.
+/// Adds the delta that a line pushes to `arrivals`, and returns true. Returns false if the line pushes no delta, or a
+/// delta that adds nothing to those before it. Then `arrivals` is unchanged.
 fn take_in(
     alloc: Global,
     decoder: &mut Decoder,
@@ -75,7 +75,7 @@ fn take_in(
     arrivals.receive(alloc, delta)
 }
 
-/// Adds what the lines after the first push, to arrivals that are still empty.
+/// Adds the deltas that these lines push, those after the first line, to `arrivals`, which is still empty.
 fn read_pushes(
     alloc: Global,
     decoder: &mut Decoder,
@@ -103,7 +103,7 @@ fn read_pushes(
     Ok(())
 }
 
-/// Returns what the lines after the first push.
+/// Returns the deltas that these lines push, those after the first line.
 fn pushed(
     alloc: Global,
     decoder: &mut Decoder,
@@ -126,7 +126,7 @@ fn pushed(
     }
 }
 
-/// Reads the sheet from the lines of a kept file, by this decoder.
+/// Reads the sheet of `replica` from the bytes of its kept file, by this decoder.
 fn read_lines<R: Threads + Sync, L: Ledger>(
     rt: &R,
     alloc: Global,
@@ -161,7 +161,7 @@ fn read_lines<R: Threads + Sync, L: Ledger>(
     }
 }
 
-/// Reads the sheet from the lines of a kept file.
+/// Reads the sheet of `replica` from the bytes of its kept file.
 pub(crate) fn read_sheet<R: Threads + Sync, L: Ledger>(
     rt: &R,
     alloc: Global,

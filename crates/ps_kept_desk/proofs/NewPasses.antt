@@ -17,7 +17,7 @@ unfolding new_passes
 nothing_seen zero = All-nil (λ (p : PassView). p.list ≡ [])
 nothing_seen (suc n) = All-push (λ (p : PassView). p.list ≡ []) (new_passes n) (new_pass n) (nothing_seen n) refl
 
--- what is known to be shown of a list that is empty
+-- an empty list is known to be shown
 pub some_first : (r : Option (List Note)) {l : List Note} → IfNone r (l ≢ []) → l ≡ [] → IsSome r
 some_first (Some s) unlike is = refl
 some_first None unlike is = absurd (unlike is)

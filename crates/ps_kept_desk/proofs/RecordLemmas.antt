@@ -1,4 +1,4 @@
--- A record goes on: more was seen, noted or synced.
+-- A record changes: more of the list was seen, noted or synced.
 use Rattle.std.proofs.Common.{◌≡◌, ◌+◌, ◌<◌, ◌≤◌, ℕ, List, [], ◌∷◌, ◌++◌, All, length, map, take, drop, ap, sym, ◌∙◌}
 use Rattle.std.proofs.Common.{arith, get_or, length-append, subst, Result, Ok, Err}
 use Rattle.std.proofs.lemmas.List.{take-append-le, take_all, take_more, length-drop}
@@ -42,7 +42,7 @@ module _ (r : ℕ) (h : List Entries) (v : RecordView) (is : IsRecord r h v) whe
         journal = is.journal;
       }
 
-  -- of the deltas that weren't noted yet k were
+  -- k of the deltas that weren't noted yet were noted
   pub more_noted : (j : JournalView) (deltas : List Entries) (k : ℕ) → deltas ≡ drop v.noted (history_of h v.seen)
       → Notes v.journal (take k deltas) j → k ≤ length deltas
       → IsRecord r h (record v { journal = j; noted = v.noted + k })
@@ -64,7 +64,7 @@ module _ (r : ℕ) (h : List Entries) (v : RecordView) (is : IsRecord r h v) whe
         journal = notes.journal is.journal;
       }
 
-  -- all of them were
+  -- all of them were noted
   all_noted : (j : JournalView) (deltas : List Entries) → deltas ≡ drop v.noted (history_of h v.seen)
       → Notes v.journal deltas j → IsRecord r h (record v { journal = j; noted = v.noted + length deltas })
   all_noted j deltas rest notes =
@@ -72,7 +72,7 @@ module _ (r : ℕ) (h : List Entries) (v : RecordView) (is : IsRecord r h v) whe
       (subst (λ (ds : List Entries). Notes v.journal ds j) (sym (take_all (length deltas) deltas (omega arith))) notes)
       (omega arith)
 
-  -- what of them was noted is counted, whatever it came to
+  -- the noted ones are counted, whatever the outcome
   pub noted_some : {A E : Type 0} (result : Result A E) (j : JournalView) (deltas : List Entries) (count : ℕ)
       → deltas ≡ drop v.noted (history_of h v.seen)
       → OnOk result (Notes v.journal deltas j × (count ≡ v.noted + length deltas))
@@ -119,7 +119,7 @@ module _ (r : ℕ) (h : List Entries) (v : RecordView) (is : IsRecord r h v) whe
     journal = journal;
   }
 
-  -- what the lists are that were told as kept is in what is kept
+  -- each list that was reported as durable is a beginning of the durable one
   pub ends_kept : (history : List Entries) (lists : List (List Note)) → history ≡ history_of h v.seen
       → All (λ list. IsPrefix list v.kept) lists → EndsKept r h history lists v.journal.kept
   ends_kept history lists whole all = record {
@@ -130,14 +130,14 @@ module _ (r : ℕ) (h : List Entries) (v : RecordView) (is : IsRecord r h v) whe
     all = λ k d lt. history_begins h _ v.kept (all k d lt);
   }
 
--- what is kept goes on, whatever a sync came to
+-- the durable list only grows, whatever the outcome of a sync
 pub kept_later : {A E : Type 0} (result : Result A E) (old seen new : List Note) → IsPrefix old seen
     → OnOk result (new ≡ seen) → OnErr result (new ≡ old) → IsPrefix old new
 kept_later (Ok a) old seen new later all same = subst (λ (l : List Note). IsPrefix old l) (sym all) later
 kept_later (Err e) old seen new later all same =
     subst (λ (l : List Note). IsPrefix old l) (sym same) (begins_itself old)
 
--- one more of the lists that were looked at
+-- one more list was checked
 pub one_more : (lists : List (List Note)) (i : ℕ) (list : List Note) → i < length lists → list ≡ get_or lists i list
     → take i lists ++ list ∷ [] ≡ take (i + 1) lists
 one_more lists i list within is = ap (λ d. take i lists ++ d ∷ []) is ∙ sym (take_more lists i list within)

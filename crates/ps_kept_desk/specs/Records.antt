@@ -1,4 +1,4 @@
--- How much of a desk's list is durable.
+-- How much of a desk's published list is durable.
 use Rattle.std.specs.Prelude.{◌≤◌, ℕ, List, All, length, take}
 use mathlib.Core.List.{IsPrefix}
 use Rattle.ps_delta.specs.Deltas.{Entries}
@@ -9,14 +9,15 @@ use Rattle.ps_kept.specs.Kept.{TellHistory}
 
 pub record RecordView : Type 0 where
   pub journal : JournalView
-  -- the beginning of the published list that is kept, and the one that was seen
+  -- the beginning of the published list that is durable, and the one that the record has seen
   pub kept : List Note
   pub seen : List Note
-  -- how many deltas of the history are noted
+  -- how many deltas of the history have a line in the journal
   pub noted : ℕ
 
--- RECORD: the kept lines tell the replica r, and the history that the kept list stands for, after the opening history
--- h. The noted lines tell a beginning of the history that the seen list stands for
+-- RECORD: the durable lines are those of the replica r, and of the history that the durable list stands for after the
+-- opening history h. All lines of the journal are those of the replica, and of a beginning of the history that the seen
+-- list stands for
 pub record IsRecord (r : ℕ) (h : List Entries) (v : RecordView) : Type 0 where
   pub told : TellHistory r v.journal.kept (history_of h v.kept)
   pub noted : TellHistory r v.journal.lines (take v.noted (history_of h v.seen))
@@ -24,8 +25,8 @@ pub record IsRecord (r : ℕ) (h : List Entries) (v : RecordView) : Type 0 where
   pub later : IsPrefix v.kept v.seen
   pub journal : IsJournal v.journal
 
--- ENDS KEPT: the kept lines tell the replica, and a beginning of this history. That begins with what each of the lists
--- stands for, after the opening history h
+-- ENDS KEPT: the durable lines are those of the replica, and of a beginning of this history. This beginning has what
+-- each of the lists stands for, after the opening history h
 pub record EndsKept (r : ℕ) (h history : List Entries) (lists : List (List Note)) (lines : List (List ℕ)) : Type 0
   where
     pub part : List Entries

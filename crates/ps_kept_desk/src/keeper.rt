@@ -25,8 +25,9 @@ pub struct DeskKeeper<L: DeskName, D: Device + Drop> {
 }
 
 impl<L: DeskName, D: Device + Drop> DeskKeeper<L, D> {
-    /// Creates the keeper of a desk that was just opened, whose passes are new. The journal has the durable lines of
-    /// the sheet's `changes` changes.
+    /// Creates the keeper of a desk that was just opened. `passes` are the desk's new ones, and `changes` is how many
+    /// changes the sheet had when it was opened. The journal's lines are the replica line and those of these changes,
+    /// all durable.
     pub fn new<W: Wait + Drop>(
         journal: Journal<D>,
         desk: &Desk<L, W>,
@@ -40,14 +41,14 @@ impl<L: DeskName, D: Device + Drop> DeskKeeper<L, D> {
         requires passes { passes.now ≡ new_passes desk.now }
         requires changes { changes ≡ length L.opening }
     {
-        // for the fact that there is a slot
+        // for its contract: there is at least one slot
         let _ = desk.seats();
         DeskKeeper {
             record: Mutex::new(Record::new(journal, passes[0].shown().unwrap(), changes)),
         }
     }
 
-    /// Makes the published list durable up to a position, unless it is already.
+    /// Makes the published list durable up to a position, unless it is already. Returns the token for what is durable.
     fn keep<W: Wait + Drop, V: Wait>(
         &self,
         wait: &V,
@@ -63,16 +64,17 @@ impl<L: DeskName, D: Device + Drop> DeskKeeper<L, D> {
             return Ok(record.kept());
         }
         record.advance(wait, alloc, desk)?;
-        // (no run meets a position beyond the end of the list)
+        // (never so: no position is beyond the end of the list)
         if !record.has(position) {
             return Err(Failed);
         }
         Ok(record.kept())
     }
 
-    /// Makes all that is published durable, for a caller without a session slot. It fails as a session's sync does.
+    /// Makes all published changes durable, for a caller without a session slot, and returns the token for them. It
+    /// fails as a session's sync does.
     ///
-    /// Cost: that of a sync where something isn't durable yet. It may wait while others sync.
+    /// Cost: that of a sync if some change isn't durable yet. It may wait while others sync.
     pub fn keep_shown<W: Wait + Drop, V: Wait>(
         &self,
         wait: &V,
@@ -85,13 +87,14 @@ impl<L: DeskName, D: Device + Drop> DeskKeeper<L, D> {
         Ok(record.kept())
     }
 
-    /// Ends the desk and its keeper, and returns the sheet and the journal. It takes the passes of all slots, and the
-    /// tokens `told` of what the sessions reported as durable. Lines that aren't durable yet are added, and synced once
-    /// more.
+    /// Ends the desk and its keeper, and returns the sheet and the journal.
+    ///
+    /// `passes` are the passes of all slots, and `told` the tokens of what the sessions reported as durable. Unless the
+    /// device failed before, lines that aren't durable yet are added, and the journal is synced once more.
     ///
     /// Of the sheet it guarantees what [`Desk::close`] does. The journal's durable lines are those of a beginning of
-    /// the sheet's history, which has all that `told` stands for. They are those of the whole history where the last
-    /// sync succeeded.
+    /// the sheet's history, which has all that `told` stands for. They are those of the whole history if the last sync
+    /// succeeded.
     ///
     /// Cost: that of freeing the published copies, and of a sync.
     pub fn close<W: Wait + Drop, V: Wait>(
@@ -117,8 +120,8 @@ impl<L: DeskName, D: Device + Drop> DeskKeeper<L, D> {
     }
 }
 
-/// The keeper of one session at a desk. A contract sees it as the beginning of the desk's list that it reported as
-/// durable.
+/// The keeper of one session at a desk. A contract sees it as the beginning of the desk's published list that it
+/// reported as durable.
 #[derive(Drop)]
 pub struct SeatKeeper<'a, L: DeskName, W: Wait + Drop, D: Device + Drop, V: Wait> {
     keeper: &'a DeskKeeper<L, D>,
@@ -175,15 +178,15 @@ impl<'a, L: DeskName, W: Wait + Drop, D: Device + Drop, V: Wait> SeatKeeper<'a, 
             return Ok(());
         }
         let kept = self.keeper.keep(self.wait, alloc, self.desk, position)?;
-        // for the fact that the list reported before is a beginning of this one
+        // for its contract: the list reported before is a beginning of this one
         let _ = self.kept.begins(&kept);
         self.kept = kept;
         Ok(())
     }
 }
 
-/// Before a session sends its replies, all that it has seen is shown to everyone and durable, whichever session made
-/// it.
+/// The sync of a session at a desk: all that the session has seen is then shown to everyone and durable, whichever
+/// session made it.
 impl<L: DeskName, W: Wait + Drop, D: Device + Drop, V: Wait, U: Wait> Keeper<Seat<'_, L, W, U>>
     for SeatKeeper<'_, L, W, D, V> {
     ghost use Rattle.std.specs.Prelude.{⊤};

@@ -1,4 +1,4 @@
-//! How much of a desk's list is durable.
+//! How much of a desk's published list is durable.
 
 ghost use Rattle.std.specs.Prelude.{◌≡◌, ◌+◌, ◌<◌, ◌≤◌, ◌^◌, [], true, false, All, drop, length, vec_len};
 ghost use Rattle.std.specs.Prelude.{MatchBool, OnOk, OnErr};
@@ -20,8 +20,10 @@ use std::alloc::Global;
 use std::marker::Model;
 use std::sync::Wait;
 
-/// A token for a beginning of a desk's list that is shown to everyone and durable. Only a record makes one, from what
-/// it has made durable. A contract sees it as that list.
+/// A token for a beginning of a desk's published list of changes that is shown to everyone and durable. A contract sees
+/// it as that list.
+///
+/// Only the keeper of a desk makes one, from what it has made durable.
 #[derive(Drop)]
 pub struct DurablePosition<L: DeskName> {
     shown: ShownPosition<L>,
@@ -50,14 +52,14 @@ impl<L: DeskName> DurablePosition<L> {
         }
     }
 
-    /// Returns the token for the same beginning as shown to everyone.
+    /// Returns the token that the same beginning is shown to everyone.
     pub fn shown(&self) -> &ShownPosition<L>
         ensures { result.now ≡ self.now }
     {
         &self.shown
     }
 
-    /// Returns whether the list is durable up to this place.
+    /// Returns whether this beginning reaches up to `position`. If it does, the list is durable up to there.
     pub fn has(&self, position: &Position<L>) -> bool
         ensures { MatchBool result
             (IsPrefix position.now self.now × (length position.now ≤ length self.now))
@@ -66,7 +68,8 @@ impl<L: DeskName> DurablePosition<L> {
         self.shown.has(position)
     }
 
-    /// Returns whether the other token's list is as long, or longer. Then it begins with this one's.
+    /// Returns whether the other token stands for a list of at least this one's length. Then the other's list begins
+    /// with this one's.
     pub fn begins(&self, other: &DurablePosition<L>) -> bool
         ensures { MatchBool result
             (IsPrefix self.now other.now × (length self.now ≤ length other.now))
@@ -76,14 +79,14 @@ impl<L: DeskName> DurablePosition<L> {
     }
 }
 
-/// What remains of a kept desk after its close.
+/// What remains of a desk and its keeper after their close.
 #[derive(Drop)]
 pub struct Ended<D: Device + Drop> {
     /// The desk's sheet.
     pub sheet: Sheet,
     /// The desk's journal.
     pub journal: Journal<D>,
-    /// Whether the last sync succeeded.
+    /// Whether the last sync succeeded, so that the whole history is durable.
     pub synced: Result<(), Failed>,
 }
 
@@ -157,7 +160,7 @@ impl<L: DeskName, D: Device + Drop> Record<L, D> {
         self.kept.again()
     }
 
-    /// Returns whether the list is durable up to this place.
+    /// Returns whether the list is durable up to this position.
     pub(crate) fn has(&self, position: &Position<L>) -> bool
         ensures { MatchBool result
             (IsPrefix position.now self.now.kept × (length position.now ≤ length self.now.kept))
@@ -166,7 +169,7 @@ impl<L: DeskName, D: Device + Drop> Record<L, D> {
         self.kept.has(position)
     }
 
-    /// Makes all that is published durable. Where it fails, no more is durable than before.
+    /// Makes all published changes durable. If it fails, no more is known to be durable than before.
     pub(crate) fn advance<W: Wait + Drop, V: Wait>(
         &mut self,
         wait: &V,
@@ -200,7 +203,7 @@ impl<L: DeskName, D: Device + Drop> Record<L, D> {
         self.sync()
     }
 
-    /// Adds these deltas to the journal, or a beginning of them.
+    /// Adds these deltas to the journal. If it fails, a beginning of them was added.
     fn note(&mut self, alloc: Global, deltas: &[Delta]) -> Result<(), Failed>
         requires rest { deltas.now ≡ drop self.old.noted (history_of L.opening self.old.seen) }
         requires bound { length (history_of L.opening self.old.seen) < 2 ^ 64 }
@@ -211,7 +214,7 @@ impl<L: DeskName, D: Device + Drop> Record<L, D> {
         note_deltas(alloc, &mut self.journal, deltas, &mut self.noted)
     }
 
-    /// Syncs the journal, which has all that was seen, and reports that as durable.
+    /// Syncs the journal, which has all that the record has seen, and reports that as durable.
     fn sync(&mut self) -> Result<(), Failed>
         requires all { self.old.noted ≡ length (history_of L.opening self.old.seen) }
         requires open { self.old.journal.has_failed ≡ false }
@@ -263,7 +266,7 @@ impl<L: DeskName, D: Device + Drop> Record<L, D> {
         }
     }
 
-    /// Makes the rest of the closed history durable.
+    /// Makes the rest of the closed desk's history durable.
     fn finish(&mut self, alloc: Global, history: &[Delta]) -> Result<(), Failed>
         requires history { history.now ≡ history_of L.opening self.old.seen }
         ensures seen { self.new.seen ≡ self.old.seen }
@@ -277,8 +280,7 @@ impl<L: DeskName, D: Device + Drop> Record<L, D> {
         self.add(alloc, &history[noted..])
     }
 
-    /// Confirms that each list that was reported as durable is durable. No run meets one that isn't: the call would
-    /// wait for ever.
+    /// Confirms that each list in `told` is durable. It always is. For one that isn't, the call would wait for ever.
     fn audit<V: Wait>(&self, wait: &V, told: &[DurablePosition<L>])
         ensures { All (λ list. IsPrefix list self.now.kept) told.now }
     {

@@ -1,6 +1,7 @@
-//! That the keeper of a desk may be shared by threads.
+//! Threads may share the keeper of a desk.
 //!
-//! The search for this finds no proof over the whole keeper at once, so its parts are taken one after another.
+//! The prover's search finds no proof of this for the whole keeper at once. So its parts are proved first, one after
+//! another.
 ghost use denote.Param.Send.{IsSend, IsSync};
 ghost use Rattle.ps_kept_desk.specs.contracts.keeper.DeskKeeper as keeper;
 ghost use Rattle.ps_kept_desk.specs.contracts.record.Record as record_row;
@@ -9,12 +10,12 @@ use crate::record::DurablePosition;
 use ps_desk::{DeskName, ShownPosition};
 use ps_keep::{Device, Journal};
 
-/// What the bound says of a type.
+/// States that a type with the bound `Send` may go to another thread.
 fn is_send<T: Send>()
     ensures { IsSend T.row }
 {}
 
-/// What lies under the lock of a keeper may go to another thread.
+/// States that the record under the lock of a keeper may go to another thread.
 fn record_is_send<L: DeskName + Send, D: Device + Drop + Send>()
     ensures { IsSend (record_row.the_row L.row D.row (record { replica = L.replica })
         (record { book = L.book; opening = L.opening }) L.Ledger

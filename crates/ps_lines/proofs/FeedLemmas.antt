@@ -1,4 +1,4 @@
--- What the search for a line feed says of a piece, and what is kept of a line.
+-- What the search for a line feed says about a piece, and what a buffer stores of a line.
 use Rattle.std.proofs.Common.{◌≡◌, ◌≢◌, ◌+◌, ◌<◌, ◌≤◌, ℕ, suc, Bool, true, false, List, [], ◌∷◌, ◌++◌, length, take}
 use Rattle.std.proofs.Common.{sym, ap, ◌∙◌, arith, rules, Some, None, refl, subst, ◌==◌, nat_le, length-append}
 use Rattle.std.specs.Prelude.{if◌then◌else◌}

@@ -28,7 +28,7 @@ lower_first : (a : ℕ × CellState) (rest others : Entries) → IsFilled a → 
 lower_first a rest others filled rising same =
     filled (sym (state_of-here a rest a.0 refl) ∙ same ∙ state_of-rising (a.0 + 1) others a.0 rising (omega arith))
 
--- entries in order are those of their state alone
+-- two lists of entries in order with the same state are the same
 same_rising : (n : ℕ) (d e : Entries) → Rising n (cells_of d) → Rising n (cells_of e) → All IsFilled d → All IsFilled e
     → ((c : ℕ) → state_of d c ≡ state_of e c) → d ≡ e
 same_rising n [] [] r s p q same = refl
@@ -60,12 +60,12 @@ same_rising n (a ∷ more) (b ∷ others) r s p q same = elim (cases_order a.0 b
         let first : a ≡ b = ap₂ (λ c x. (c, x)) is states in
         ap₂ (λ x xs. x ∷ xs) first tails
 
--- deltas are those of their state alone
+-- two deltas with the same state are the same
 pub same_entries : (d e : Entries) → IsDelta d → IsDelta e → state_of d ≡ state_of e → d ≡ e
 same_entries d e x y same =
     same_rising 0 d e (rising_of d x) (rising_of e y) x.none_empty y.none_empty (λ c. ap (λ (s : State). s c) same)
 
--- deltas have one joint
+-- deltas have only one join
 pub joint_once : (deltas : List Entries) (d e : Entries) → IsJoint deltas d → IsJoint deltas e → d ≡ e
 joint_once deltas d e x y = same_entries d e x.lawful y.lawful (x.joined ∙ sym y.joined)
 
@@ -74,7 +74,7 @@ module _ (ds : List Entries) (most : ℕ) where
   abbrev pub NoneAbove : ℕ → Type 0
   NoneAbove count = (k : ℕ) (line : List ℕ) → count < k → k ≤ most → ¬ IsGroupLine ds k line
 
-  -- none above those that may share a line has one
+  -- no number has a line above the number of deltas that may share a line
   pub none_above_all : (count reach : ℕ)
       → ((k : ℕ) → reach < k → k ≤ most → k ≤ length ds → HasNoLine (take k ds))
       → ((k : ℕ) (line : List ℕ) → count < k → k ≤ reach → ¬ IsGroupLine ds k line) → NoneAbove count
@@ -113,7 +113,7 @@ module _ (ds : List Entries) (most : ℕ) where
     greatest = none;
   }
 
-  -- a line of all that may share one is that of the greatest number
+  -- if all deltas that may share a line have one, it is the line of the greatest number
   pub greatest_whole : (reach : ℕ) (line : List ℕ) → 0 < reach → reach ≤ most → IsGroupLine ds reach line
       → ((k : ℕ) → reach < k → k ≤ most → k ≤ length ds → HasNoLine (take k ds))
       → IsGreatest ds most reach line
@@ -151,7 +151,7 @@ module _ (d : Entries) (lawful : IsDelta d) where
       ap length group.is ∙ ap (λ (e : Entries). length (delta_text e)) (sym same) in
       omega (arith, long, group.fits, longer)
 
--- .. whatever became of its line
+-- .. given the result of writing its line
 pub alone_line : {V E : Type 0} (items : V → List ℕ) (d : Entries) (r : Result V E) → IsDelta d
     → IfOk r (λ v. items v ≡ delta_text d) → IfOk r (λ v. length (items v) ≤ DELTA_LINE_LIMIT)
     → IfOk r (λ v. IsGreatest (d ∷ []) 1 1 (items v))
@@ -163,14 +163,14 @@ one_item [] d one is = absurd (omega (arith, one))
 one_item (y ∷ []) d one is = ap (λ z. z ∷ []) (sym is)
 one_item (y ∷ z ∷ zs) d one is = absurd (omega (arith, one))
 
--- .. where there is no other, however many may be handed out
+-- .. if it is the only delta, however many a pull may join
 pub none_of_one : (deltas : List Entries) (d : Entries) (most : ℕ) → deltas ≡ d ∷ [] → HasNone (d ∷ []) 1
     → HasNone deltas most
 none_of_one deltas d most is none k line some within group =
     let mine : IsGroupLine (d ∷ []) k line = subst (λ ds. IsGroupLine ds k line) is group in
     none k line some mine.within mine
 
--- the line of so many deltas is one
+-- the join of the first n deltas has only one line
 group_line_once : (deltas : List Entries) (n m : ℕ) (line other : List ℕ) → n ≡ m → IsGroupLine deltas n line
     → IsGroupLine deltas m other → line ≡ other
 group_line_once deltas n m line other is a b =
@@ -193,7 +193,7 @@ group_once from most deltas text told (inl a) (inl b) = elim (cases_order a.0 b.
   | inr (inr lt) ↦ absurd (b.2.greatest a.0 a.1 lt a.2.within a.2.grouped)
 ]
 
--- the history decides what is handed out
+-- the history determines the reply to a pull
 pub hands_once : (history : List Entries) (from most : ℕ) (text told : List ℕ) → HandsOut history from most text
     → HandsOut history from most told → text ≡ told
 hands_once history from most text told a b = elim (cases_order from (length history)) [

@@ -1,4 +1,4 @@
--- What the reader of a source's lines takes of them.
+-- What the reader of a source's lines takes from the source.
 use Rattle.std.proofs.Common.{◌≡◌, ◌≢◌, ◌+◌, ◌-◌, ◌<◌, ◌≤◌, ℕ, List, [], ◌∷◌, ◌++◌, take, drop, Option, Some, None, sym}
 use Rattle.std.proofs.Common.{◌∙◌, ap, arith, false, rules, append_assoc, append-nil, inl, inr, refl, subst}
 use Rattle.std.specs.Io.KnownBytes.{Consumes, Keeps, prepend_known}
@@ -14,7 +14,7 @@ use Rattle.ps_lines.specs.Streams.{TakesLine}
 use Rattle.ps_lines.proofs.FeedLemmas.{fits_kept, kept_cut, nothing_kept}
 use Rattle.ps_lines.proofs.ReadLemmas.{Consumes-append, Consumes-keeps, Consumes-nil}
 
--- of bytes that were read the first were taken in
+-- the first bytes of those that were read are taken in
 pub consumes_part : (piece : List ℕ) (start end taken : ℕ) (rest : Option (List ℕ)) → taken ≤ end - start
     → Consumes (prepend_known (take (end - start) (drop start piece)) rest)
     (prepend_known (take (end - (start + taken)) (drop (start + taken) piece)) rest)
@@ -67,7 +67,7 @@ module _ {S : Type 0} {G : Ghosts S} (remaining : S → Option (List ℕ)) (left
     taken = rw (append-nil r.part) (Consumes-keeps _ _ _ r.part r.taken keeps);
   }
 
-  -- .. and nothing, where nothing is held
+  -- .. and nothing, if the buffer holds nothing
   pub reading_none : Keeps (due remaining mid) (due remaining new) → mid.lines.pending ≡ Some []
       → Consumes (due remaining old) (due remaining new) []
   reading_none keeps none =
@@ -133,7 +133,7 @@ module _ {S : Type 0} {G : Ghosts S} (remaining : S → Option (List ℕ)) (left
       let w = whole bytes None taken fed.0 in
       record { raw = w.0; one = w.1; read = w.3; ended = λ e. search (rules, e); held = w.2 }
 
--- one turn: more was read where nothing waited, and some of it was taken in
+-- one turn of the loop: more was read if no byte was left, and some bytes were taken in
 module _ {S : Type 0} {G : Ghosts S} (remaining : S → Option (List ℕ)) (left failures : S → ℕ)
     (old mid full new : Incoming S G) (r : IsReading remaining left failures old mid)
     (keeps : Keeps (due remaining mid) (due remaining full)) (same : full.lines ≡ mid.lines)

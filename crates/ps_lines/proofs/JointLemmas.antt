@@ -1,4 +1,4 @@
--- Deltas joined upward, one more at a time.
+-- The joins of the first delta, of the first two, and so on.
 use Rattle.std.proofs.Common.{◌≡◌, ℕ, zero, suc, ◌+◌, ◌-◌, ◌<◌, ◌≤◌, inl, inr, sym, ap, subst, ◌∙◌, arith}
 use Rattle.std.proofs.Common.{List, [], ◌∷◌, ◌++◌, length, take, get_or, Option, Some, None, Result, Ok, Err}
 use Rattle.std.specs.Prelude.{IfOk, IfSome}
@@ -20,7 +20,7 @@ use Rattle.ps_wire.specs.declared.TheConstants.{DELTA_LINE_LIMIT}
 use Rattle.ps_lines.specs.PullReplies.{IsGroupLine, IsJoint}
 use Rattle.ps_lines.specs.Inside.Joints.{AreFirstJoints, AreJoints}
 
--- the first delta is the join of itself
+-- the first delta is its own join
 pub joint_first : (ds : List Entries) (d : Entries) → 0 < length ds → d ≡ get_or ds 0 d → IsDelta d
     → IsJoint (take 1 ds) d
 joint_first ds d some is lawful = record {
@@ -52,7 +52,7 @@ first_more ds js j first joint k d within = elim (cases_lt k (length js)) [
       (subst (λ m. IsJoint (take (m + 1) ds) j) (sym is) joint)
 ]
 
--- the join of the first so many, where it is read
+-- the joint at `count - 1` is the join of the first `count` deltas
 pub joint_at : (ds js : List Entries) (count : ℕ) (x : Entries) → 0 < count → count ≤ length js → AreFirstJoints ds js
     → x ≡ get_or js (count - 1) x → IsJoint (take count ds) x
 joint_at ds js count x some within first is =
@@ -61,7 +61,7 @@ joint_at ds js count x some within first is =
     subst (λ m. IsJoint (take m ds) x) next
     (subst (IsJoint (take (count - 1 + 1) ds)) (sym is) (first (count - 1) x last))
 
--- what was joined first is below what was joined later
+-- the join of fewer first deltas is below the join of more
 history_below : (ds : List Entries) (m k : ℕ) → m ≤ k
     → joined_state (joined_history (take k ds)) (joined_history (take m ds)) ≡ joined_history (take k ds)
 history_below ds zero k le =
@@ -82,7 +82,7 @@ history_below (d ∷ ds) (suc m) (suc k) le =
     ∙ ap (joined_state first) (history_below ds m k (omega (arith, le)))
     ∙ sym (joined_history-cons d (take k ds))
 
--- no more deltas have a line where so many have outgrown it
+-- once the join of the first deltas has outgrown a line, no join of more deltas has one
 pub none_later : (ds : List Entries) (n : ℕ) (j : Entries) → IsJoint (take (n + 1) ds) j → OutgrowsLine j
     → (k : ℕ) (line : List ℕ) → n < k → ¬ IsGroupLine ds k line
 none_later ds n j joint outgrows k line above grouped =
@@ -94,7 +94,7 @@ none_later ds n j joint outgrows k line above grouped =
     let long = outgrows grouped.delta grouped.joint.lawful below in
     omega (arith, long, grouped.fits, ap length grouped.is)
 
--- the first of the deltas, which is y as well
+-- y, which equals the first delta, is the first joint
 pub first_joint : (ds : List Entries) (n : ℕ) (x y : Entries) → n < length ds → n ≡ 0 → x ≡ get_or ds n x → y ≡ x
     → IsDelta x → IsJoint (take (n + 1) ds) y
 first_joint ds zero x y within none is same lawful =
@@ -125,7 +125,7 @@ module _ (ds js : List Entries) (j : Entries) (n : ℕ) (long : n ≡ length js)
     last = λ k line above _. none_later ds n j joint outgrows k line (omega (arith, above, long));
   }
 
--- the line of the join of so many, where there is one
+-- the line of the join of the first n deltas, if it isn't too long
 pub group_line_of : {V E : Type 0} (items : V → List ℕ) (deltas : List Entries) (n : ℕ) (joint : Entries)
     (r : Result (Option V) E) → n ≤ length deltas → IsJoint (take n deltas) joint
     → IfOk r (λ o. IfSome o (λ line. items line ≡ delta_text joint))
@@ -136,7 +136,7 @@ group_line_of items deltas n joint (Ok (Some line)) within is_joint is fits =
 group_line_of items deltas n joint (Ok None) within is_joint is fits = tt
 group_line_of items deltas n joint (Err e) within is_joint is fits = tt
 
--- what holds of a result by two facts
+-- two facts about a result give a third
 pub both_ok : {T E : Type 0} {P Q S : T → Type 0} (r : Result T E) → ((t : T) → P t → Q t → S t) → IfOk r P → IfOk r Q
     → IfOk r S
 both_ok (Ok t) both p q = both t p q

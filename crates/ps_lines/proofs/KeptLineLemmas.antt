@@ -1,5 +1,5 @@
--- The lines of a kept file: what each says as the command that it is. None both pushes a delta and tells a replica, and
--- none tells two.
+-- What each line of a kept file says, given how a session reads it. No line both pushes a delta and gives a replica's
+-- number, and no line gives two numbers.
 use Rattle.std.proofs.Common.{◌≡◌, ◌≢◌, ◌⊎◌, inl, inr, ◌≤◌, ◌==◌, ℕ, Bool, true, false, cond, List, [], ◌∷◌, ◌++◌}
 use Rattle.std.proofs.Common.{Some, None, Ok, Err, refl, ap, sym, ◌∙◌, arith, codes, get_or, length, drop, nat_lt}
 use Rattle.std.proofs.Common.{subst}
@@ -31,11 +31,11 @@ use Rattle.ps_lines.specs.declared.verb.Verb.TheVariants.{Push, Replica}
 use Rattle.ps_lines.proofs.NamesAreWords.{number_is_word}
 use Rattle.ps_lines.proofs.WordLemmas.{one_part, parts_are_some, whole_number-decimal}
 
--- the first letters are p and r
+-- a text that begins with p isn't one that begins with r
 differ : (a b : List ℕ) → 112 ∷ a ≡ 114 ∷ b → ⊥
 differ a b e = omega (arith, ap (λ l. get_or l 0 0) e)
 
--- a line that pushes tells no replica
+-- a line that pushes gives no replica's number
 pub push_tells_none : (line : List ℕ) → IsPush line → TellsNone line
 push_tells_none line push n low high is = differ _ _ (sym push.1 ∙ is)
 
@@ -44,7 +44,7 @@ one_replica line n m first second =
     decimal_injective n m (omega (arith, first.1)) (omega (arith, second.1))
     (append_cancel_left (codes "replica ") (decimal n) (decimal m) (sym first.2 ∙ second.2))
 
--- a digest is longer than the number of a replica
+-- a digest line gives no replica's number, since a digest is longer
 pub digest_tells_none : (line : List ℕ) → IsDigestLine line → TellsNone line
 unfolding is_digest
 digest_tells_none line digest n low high is =
@@ -153,12 +153,12 @@ replica_read line n read tells reads =
     subst (λ o. MatchOption o (read ≡ read_unnumbered (decimal n)) (λ k. read ≡ Ok (commands.Replica (Some k))))
     (read_again n tells.0 tells.1) alone
 
--- what is read as anything else is no such line
+-- a line that is read as anything else gives no replica's number
 tells_none : (line : List ℕ) (read : Read Command) → ReadsLine line read
     → ((n : ℕ) → read ≢ Ok (commands.Replica (Some n))) → TellsNone line
 tells_none line read reads other n low high is = other n (replica_read line n read (low, high, is) reads)
 
--- what a line says that has the verb of a replica
+-- what a line with the verb `replica` says
 replica_says_asked : (line : List ℕ) (read : Read Command) → ¬ IsPush line → ReadsLine line read
     → (others : List (List ℕ)) → ReadsReplica others read → SaysAsked line read
 replica_says_asked line read other reads [] is =
@@ -190,7 +190,7 @@ replica_says_asked line read other reads (word ∷ second ∷ more) is =
     subst (SaysAsked line) (sym is)
     (tells_none line (Err refusals.Command) (subst (ReadsLine line) is reads) (λ n e. cc), other)
 
--- .. and one that has that of a push
+-- .. and one with the verb `push`
 pushing_says_asked : (line : List ℕ) (read : Read Command) → verb_of (first_word line) ≡ Some Push
     → ReadsLine line read → ReadsPush (drop 1 (words line)) (after_word line) read → SaysAsked line read
 pushing_says_asked line read verb reads pushing = by (divided line)
@@ -207,7 +207,7 @@ pushing_says_asked line read verb reads pushing = by (divided line)
         push_says_asked line (after_word line) read
         (more ∙ ap (λ w. w ++ 32 ∷ after_word line) (push_only (first_word line) verb)) reads
 
--- what a line of a kept file's verbs says, whatever it is read as
+-- what a line with one of a kept file's two verbs says, however it is read
 pub says_asked : (line : List ℕ) (read : Read Command) → is_kept_verb (verb_of (first_word line)) ≡ true
     → ReadsLine line read → SaysAsked line read
 says_asked line read kept reads = by (verb_of (first_word line)) refl kept reads
@@ -222,7 +222,7 @@ says_asked line read kept reads = by (verb_of (first_word line)) refl kept reads
         differs e = cc
     by _ is other r = absurd (false≢true other)
 
--- a line that could tell this replica alone, and isn't its line, tells none
+-- a line that can give only the number n, and isn't the line of replica n, gives no number
 pub other_replica : (line : List ℕ) (n : ℕ) → ((m : ℕ) → Tells line m → m ≡ n) → line ≢ replica_line n
     → TellsNone line
 other_replica line n one other m low high is =

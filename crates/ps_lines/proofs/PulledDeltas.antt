@@ -1,5 +1,5 @@
--- What is handed out of the first of the deltas after a number is what is handed out of all of them, where the first
--- are as many as may be handed out at once.
+-- A pull that may join at most `room` deltas returns the same from all deltas after a number as from the first `room`
+-- of them.
 use Rattle.std.proofs.Common.{◌≡◌, ◌⊎◌, ◌<◌, ◌≤◌, ◌-◌, ℕ, List, [], ◌∷◌, length, take, drop, inl, inr}
 use Rattle.std.proofs.Common.{sym, ap, subst, arith, min, Ok, ◌∙◌}
 use Rattle.std.proofs.lemmas.List.{length-drop, length-take, take-take, take_all}
@@ -65,8 +65,8 @@ module _ (deltas : List Entries) (room most : ℕ) (wide : most ≤ room) where
   handed_of_all from text (inl found) = inl (found.0, found.1, greatest_of_all found.0 found.1 found.2, found.3)
   handed_of_all from text (inr none) = inr (none_of_all none.0, none.1)
 
--- what one is told by the deltas after a number, the first of them, is what the history hands out; or there is no
--- memory, before its end
+-- a reply made of the first `room` deltas after a number is the history's reply to that pull; or memory has run out,
+-- before the history's end
 pub hands_out : (history : List Entries) (from most room : ℕ) (deltas : List Entries) (text : List ℕ)
     → deltas ≡ take room (drop from history) → from ≤ length history → most ≤ room → 1 ≤ room
     → HandsOn from most (Ok deltas) text
@@ -102,7 +102,7 @@ hands_out history from most room (d ∷ ds) text is there wide some (inr memory)
   memory,
 )
 
--- no line of the deltas, or no memory for it
+-- the refusal of a pull: the deltas have no line, or memory has run out
 pub hands_refusal : (from most : ℕ) (deltas : List Entries) (refusal : Refusal) → 0 < length deltas
     → (refusal ≡ refusals.TooLong) ⊎ (refusal ≡ refusals.Memory)
     → (refusal ≡ refusals.TooLong → HasNone deltas most) → HandsOn from most (Ok deltas) (refusal_text refusal)

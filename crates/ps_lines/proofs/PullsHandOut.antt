@@ -1,4 +1,4 @@
--- Of a history whose deltas have lines, no pull is refused as too long.
+-- If each delta of a history fits on a line, no pull is refused as too long.
 use Rattle.std.proofs.Common.{◌≡◌, ◌+◌, ◌<◌, ◌≤◌, inl, inr, refl, sym, arith, ℕ, List, [], ◌∷◌, length, drop}
 use Rattle.std.proofs.lemmas.List.{length-drop}
 use Rattle.std.proofs.lemmas.List.Elements.{All-drop, All-head}

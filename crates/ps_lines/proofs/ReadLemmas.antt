@@ -1,4 +1,4 @@
--- What reads, one after another, take from a source.
+-- What several reads, one after another, take from a source.
 use Rattle.std.proofs.Common.{◌≡◌, ◌++◌, List, [], Option, Some, None, refl, sym, ap, ◌∙◌, append_assoc, rules}
 use Rattle.std.proofs.Common.{Result, Err, ℕ, ◌+◌, ◌-◌, ◌<◌, ◌≤◌, arith, length, length-drop, take, drop}
 use Rattle.std.proofs.Math.Seq.{take-add}
@@ -51,7 +51,7 @@ turn_within bytes start taken lt le =
     (rest-range bytes start) ∙ length-drop start bytes in
     omega (arith, shorter, lt, le)
 
--- a fault that is handed on is the same fault
+-- a fault that is returned unchanged is the same fault
 pub same_fault : {A B E : Type 0} (result : Result B E) (x fault : E) (wanted : E) → result ≡ Err x → x ≡ fault
     → result ≡ Err wanted
     → ◌≡◌ {A = Result A E} (Err fault) (Err wanted)

@@ -1,4 +1,4 @@
--- A line is read in one way, but that a formula or a text may find too little memory.
+-- A line is read in only one way. The one exception: memory may run out.
 use Rattle.std.proofs.Common.{◌≡◌, ◌≢◌, ◌⊎◌, inl, inr, ℕ, Bool, true, false, List, [], ◌∷◌, Option, Some, None}
 use Rattle.std.proofs.Common.{Ok, Err, refl, sym, ap, subst, ◌∙◌}
 use Rattle.std.specs.Prelude.{MatchOption, drop}
@@ -23,7 +23,7 @@ use Rattle.ps_lines.specs.declared.verb.Verb.{Verb}
 use Rattle.ps_lines.specs.declared.verb.Verb.TheVariants.{Add, Choose, Entries as AllEntries, Entry, Get, Merge}
 use Rattle.ps_lines.specs.declared.verb.Verb.TheVariants.{Pull, Push, Replica, Rows, Set, Sub, Unchoose, Wait}
 
--- memory was ample
+-- memory didn't run out
 abbrev IsAmple : {X : Type 0} → Read X → Type 0
 IsAmple read = read ≢ Err refusals.Memory
 
@@ -34,7 +34,7 @@ formula_found bytes c (Ok d) x y ample =
     ap Ok (x.found.1 ∙ ap contents.Formula same ∙ sym y.found.1)
 formula_found bytes c (Err e) x y ample = absurd (ample (ap Err (y.read x.found.0 x.found.2 x.found.3)))
 
--- a formula that is too long is one
+-- a text isn't refused both as no formula and as a formula that is too long
 not_both : (bytes : List ℕ) → ReadsFormula bytes (Err refusals.Formula) → ReadsFormula bytes (Err refusals.TooLong)
     → ⊥
 not_both bytes x y = x.no_formula refl (y.too_long refl).0 (y.too_long refl).1
@@ -220,7 +220,7 @@ verb_once (Some Pull) others rest a b x y ample_a ample_b = pull_once others a b
 verb_once (Some Replica) others rest a b x y ample_a ample_b = replica_once others a b x y
 verb_once (Some Wait) others rest a b x y ample_a ample_b = wait_once others a b x y
 
--- two readings of one line are the same, where neither lacked memory
+-- two readings of one line are the same, if memory ran out in neither
 pub reads_once : (line : List ℕ) (a b : Read Command) → ReadsLine line a → ReadsLine line b
     → a ≢ Err refusals.Memory → b ≢ Err refusals.Memory → a ≡ b
 reads_once line a b x y ample_a ample_b =

@@ -1,4 +1,4 @@
--- Lines one after another, and one more.
+-- Lines that are handled one after another, and one more line.
 use Rattle.std.proofs.Common.{◌≡◌, ◌∙◌, ◌<◌, ℕ, List, [], ◌∷◌, ◌++◌, refl, sym, ap, subst, append_assoc, append-nil}
 use Rattle.std.proofs.Common.{flat_map, arith, length}
 use Rattle.std.proofs.lemmas.Grind.{flat_map-append}

@@ -1,4 +1,4 @@
--- How a line is divided into words, and what a word of digits writes.
+-- How a line is divided into words, and the number that a word of digits stands for.
 use Rattle.std.proofs.Common.{◌≡◌, ◌≢◌, ◌+◌, ◌-◌, ◌<◌, ◌≤◌, ◌^◌, ◌==◌, ℕ, Bool, true, false, cond, ◌&&◌}
 use Rattle.std.proofs.Common.{Bor, List, [], ◌∷◌, ◌++◌, get_or, length, subst}
 use Rattle.std.proofs.Common.{take, drop, nat_lt, Option, Some, None, refl, sym, ap, ◌∙◌, arith, rules}

@@ -1,4 +1,4 @@
--- What the reader of a source's lines returns, and what it has still to return.
+-- The lines that the reader of a source returns, and the bytes that it has still to read.
 use Rattle.std.specs.Prelude.{◌≡◌, ◌+◌, ◌*◌, ◌-◌, ℕ, List, [], ◌∷◌, ◌++◌, Option, Some, None, true, take, drop}
 use Rattle.std.specs.Prelude.{if◌then◌else◌}
 use Rattle.std.specs.Io.KnownBytes.{Consumes, IsAtEnd, prepend_known}
@@ -10,12 +10,12 @@ use Rattle.ps_lines.specs.declared.incoming.NextLine.{NextLine}
 use Rattle.ps_lines.specs.declared.line_buffer.Line.{Line}
 use Rattle.ps_lines.specs.declared.line_buffer.Line.TheVariants as lines
 
--- the bytes that were read and aren't taken in, from `start` to `end`, and then what the source still has
+-- the bytes still to come: those read into `piece` and not taken in yet (`start` to `end`), then those of the source
 abbrev pub due : {S : Type 0} {G : Ghosts S} → (S → Option (List ℕ)) → Incoming S G → Option (List ℕ)
 due remaining incoming = prepend_known
     (take (incoming.end - incoming.start) (drop incoming.start incoming.piece.items)) (remaining incoming.source)
 
--- the most lines that it can still end: one for each byte that waits, and `PIECE_BYTES + 1` for each further read
+-- the most lines that the reader can still end: one for each byte in `piece`, and `PIECE_BYTES + 1` for each later read
 abbrev pub lines_left : {S : Type 0} {G : Ghosts S} → (S → ℕ) → Incoming S G → ℕ
 lines_left left incoming = left incoming.source * (PIECE_BYTES + 1) + (incoming.end - incoming.start)
 
@@ -31,13 +31,13 @@ IsBetweenLines incoming = incoming.lines.pending ≡ Some []
 abbrev pub source_of : {S : Type 0} {G : Ghosts S} → Incoming S G → S
 source_of incoming = incoming.source
 
--- what is held of a line with these bytes
+-- `line` is what the buffer holds after a line with the bytes `raw`, or they are too many
 abbrev pub IsHeld : Line → List ℕ → List ℕ → Type 0
 IsHeld lines.None raw line = raw ≡ []
 IsHeld lines.Full raw line = kept raw ≡ Some line
 IsHeld lines.TooLong raw line = kept raw ≡ None
 
--- NEXT: a line was read with its line feed; or the input has ended, and what stood after the last line feed was read
+-- NEXT: a line was read with its line feed; or the input has ended, and the bytes after its last line feed were read
 pub record IsNextLine (old new : Option (List ℕ)) (line : List ℕ) (next : NextLine) : Type 0 where
   pub raw : List ℕ
   pub one : HasNoFeed raw

@@ -5,11 +5,11 @@ use Rattle.ps_lines.specs.ReplicaLine.{Tells, TellsNone}
 use Rattle.ps_lines.specs.declared.kept_line.KeptLine.{KeptLine}
 use Rattle.ps_lines.specs.declared.kept_line.KeptLine.TheVariants as kept
 
--- it tells the replica, or pushes the delta
+-- the line gives the number of a replica, or pushes a delta
 abbrev pub LineSays : List ℕ → KeptLine → Type 0
 LineSays line (kept.Replica n) = Tells line n
 LineSays line (kept.Push d) = Pushes line d
 
--- it does neither
+-- the line does neither
 abbrev pub LineSaysNothing : List ℕ → Type 0
 LineSaysNothing line = TellsNone line × ¬ IsPush line

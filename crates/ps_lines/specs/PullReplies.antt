@@ -1,4 +1,4 @@
--- What a pull returns of a history.
+-- What a pull returns from a history.
 use Rattle.std.specs.Prelude.{◌≡◌, ◌⊎◌, ◌+◌, ◌<◌, ◌≤◌, ℕ, List, [], ◌∷◌, length, take, drop, Ok, Err}
 use Rattle.std.specs.List.{All}
 use Rattle.ps_grid.specs.declared.refusal.Refusal.TheVariants as refusals
@@ -10,12 +10,12 @@ use Rattle.ps_wire.specs.Value.{IsLawful}
 use Rattle.ps_lines.specs.Commands.{Read}
 use Rattle.ps_lines.specs.Replies.{end_text, handed_text, refusal_text}
 
--- the delta stands for the join of the deltas
+-- the delta is the join of the deltas
 pub record IsJoint (deltas : List Entries) (delta : Entries) : Type 0 where
   pub lawful : IsDelta delta
   pub joined : state_of delta ≡ joined_history deltas
 
--- the bytes are the line of the first n deltas joined, and not too long
+-- the bytes are the line of the join of the first n deltas, and not too long
 pub record IsGroupLine (deltas : List Entries) (n : ℕ) (line : List ℕ) : Type 0 where
   pub within : n ≤ length deltas
   pub delta : Entries
@@ -30,36 +30,36 @@ pub record IsGreatest (deltas : List Entries) (most n : ℕ) (line : List ℕ) :
   pub grouped : IsGroupLine deltas n line
   pub greatest : (k : ℕ) (longer : List ℕ) → n < k → k ≤ most → ¬ IsGroupLine deltas k longer
 
--- there is no such line
+-- there is no such line for any number from 1 to `most`
 abbrev pub HasNone : List Entries → ℕ → Type 0
 HasNone deltas most = (k : ℕ) (line : List ℕ) → 1 ≤ k → k ≤ most → ¬ IsGroupLine deltas k line
 
--- of the deltas after the version `from`, the greatest number up to `most` whose join has a line that isn't too long
+-- the reply with the deltas after the version `from`: as many of them, up to `most`, as fit joined on one line
 abbrev pub HandsGroup : ℕ → ℕ → List Entries → List ℕ → Type 0
 HandsGroup from most deltas text =
     ((n : ℕ) × (line : List ℕ) × IsGreatest deltas most n line × (text ≡ handed_text (from + n) line))
     ⊎ (HasNone deltas most × (text ≡ refusal_text refusals.TooLong))
 
--- PULL: the reply to a client that has the first `from` deltas, and takes at most `most` at once
+-- PULL: the reply to a client that has the first `from` deltas, and accepts at most `most` joined into one
 pub record HandsOut (history : List Entries) (from most : ℕ) (text : List ℕ) : Type 0 where
   pub beyond : length history < from → text ≡ refusal_text refusals.Version
   pub at_end : from ≡ length history → text ≡ end_text from
   pub before_end : from < length history → HandsGroup from most (drop from history) text
 
--- the reply to a client that has the first `from` deltas, by the deltas after them: as many as one line holds, or that
--- there are none; out of memory only if there is one
+-- the reply to a client that has the first `from` deltas, given the deltas after them or a refusal. The reply is that
+-- refusal, or `end` if there are no deltas. Otherwise it has as many deltas as fit on one line, or is out of memory
 abbrev pub HandsOn : ℕ → ℕ → Read (List Entries) → List ℕ → Type 0
 HandsOn from most (Err refusal) reply = reply ≡ refusal_text refusal
 HandsOn from most (Ok []) reply = reply ≡ end_text from
 HandsOn from most (Ok (d ∷ ds)) reply =
     HandsGroup from most (d ∷ ds) reply ⊎ (reply ≡ refusal_text refusals.Memory)
 
--- the delta is in range, and its line isn't too long
+-- the delta is in range, and fits on a line
 pub record HasLine (delta : Entries) : Type 0 where
   pub lawful : IsLawful delta
   pub fits : FitsLine delta
 
--- LAW: if the deltas of a history have lines, a client that lacks some gets more: no pull is refused as too long
+-- LAW: if each delta of a history fits on a line, no pull is refused as too long: a client that lacks deltas gets some
 abbrev pub PullsHandOut : Type 0
 PullsHandOut =
     (history : List Entries) (from most : ℕ) (text : List ℕ) → All HasLine history → from < length history → 1 ≤ most

@@ -3,11 +3,11 @@ use Rattle.std.specs.Prelude.{◌≡◌, ℕ, List, [], ◌∷◌, ◌++◌, cod
 use Rattle.ps_delta.specs.Deltas.{Entries}
 use Rattle.ps_wire.specs.Line.{IsLine, delta_text}
 
--- its first word, with its space
+-- the line's first word, with its space
 abbrev pub push_word : List ℕ
 push_word = codes "push "
 
--- the line begins so
+-- the line begins with `push` and a space
 abbrev pub IsPush : List ℕ → Type 0
 IsPush line = (text : List ℕ) × (line ≡ push_word ++ text)
 
@@ -19,6 +19,6 @@ Pushes line delta = (text : List ℕ) × (line ≡ push_word ++ text) × IsLine 
 abbrev pub push_line : Entries → List ℕ
 push_line delta = push_word ++ delta_text delta
 
--- the line that pushes the delta of a line, with its line feed
+-- the `push` line for the text of a delta, with its line feed
 abbrev pub push_text : List ℕ → List ℕ
 push_text delta = push_word ++ (delta ++ 10 ∷ [])

@@ -1,4 +1,4 @@
--- The text of a reply: a line of words, one space between two, or such a line and the lines of a table.
+-- The text of a reply: one line of words, and in two cases the lines of a table after it.
 use Rattle.std.specs.Prelude.{ℕ, List, [], ◌∷◌, ◌++◌, codes, decimal}
 use Rattle.ps_grid.specs.Refusals.{number_of, name_of}
 use Rattle.ps_grid.specs.declared.refusal.Refusal.{Refusal}
@@ -11,7 +11,7 @@ use Rattle.ps_value.specs.Shown.{shown_text}
 abbrev pub done_text : ℕ → List ℕ
 done_text version = codes "ok " ++ decimal version ++ 10 ∷ []
 
--- nothing was new
+-- a merged delta had nothing new
 abbrev pub same_text : ℕ → List ℕ
 same_text version = codes "same " ++ decimal version ++ 10 ∷ []
 
@@ -26,7 +26,7 @@ rows_text count table = codes "rows " ++ decimal count ++ 10 ∷ table
 abbrev pub entry_reply : List ℕ → List ℕ
 entry_reply entry = codes "entry " ++ (entry ++ 10 ∷ [])
 
--- .. and the number of lines of a table of entries, and the lines
+-- the number of lines of a table of entries, and the lines
 abbrev pub entries_reply : ℕ → List ℕ → List ℕ
 entries_reply count table = codes "entries " ++ decimal count ++ 10 ∷ table
 
@@ -37,7 +37,7 @@ handed_text last line = codes "delta " ++ decimal last ++ (codes " " ++ line) ++
 abbrev pub end_text : ℕ → List ℕ
 end_text version = codes "end " ++ decimal version ++ 10 ∷ []
 
--- the own replica
+-- the number of the own replica
 abbrev pub replica_text : ℕ → List ℕ
 replica_text number = codes "replica " ++ decimal number ++ 10 ∷ []
 

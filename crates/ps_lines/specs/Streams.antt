@@ -27,7 +27,7 @@ abbrev pub IsAfterLine : Type 0 → List ℕ → Type 0
 IsAfterLine ended [] = ended
 IsAfterLine ended (b ∷ bs) = b ≡ 10
 
--- LAW: bytes are divided into lines in one way
+-- LAW: bytes divide into lines in only one way
 abbrev pub DividesOneWay : Type 0
 DividesOneWay =
     (bytes : List ℕ) (lines others : List (List ℕ)) (rest remainder : List ℕ)
@@ -41,8 +41,8 @@ pub record TakesLine (old new : Option (List ℕ)) : Type 0 where
   pub ends : (feed ≡ []) ⊎ (feed ≡ 10 ∷ [])
   pub taken : Consumes old new (part ++ feed)
 
--- the reply to a line that isn't empty and isn't too long: the state before, the line, the reply's bytes, the state
--- after
+-- what answers a line that isn't empty and isn't too long: it relates the state before, the line, the reply's bytes and
+-- the state after
 abbrev pub Answering : Type 0 → Type 1
 Answering State = State → List ℕ → List ℕ → State → Type 0
 
@@ -51,17 +51,17 @@ abbrev pub Replies : {State : Type 0} → Answering State → State → List ℕ
 Replies Answers old [] text new = (text ≡ []) × (new ≡ old)
 Replies Answers old (b ∷ bs) text new = Answers old (b ∷ bs) text new
 
--- a line as it stands between line feeds; one that is too long has the reply `refused`
+-- the same for the bytes between two line feeds; a line that is too long has the reply `refused`
 abbrev pub Handles : {State : Type 0} → List ℕ → Answering State → State → List ℕ → List ℕ → State → Type 0
 Handles refused Answers old raw text new = MatchBool (nat_le (length raw) LINE_LIMIT)
     (Replies Answers old (without_return raw) text new)
     ((text ≡ refused) × (new ≡ old))
 
--- .. with the refusal of a line as that reply
+-- .. and `refused` is the refusal `Line`
 abbrev pub Lines : {State : Type 0} → Answering State → Answering State
 Lines Answers = Handles (refusal_text refusals.Line) Answers
 
--- the lines one after another
+-- the lines are handled one after another, and `text` has all replies
 abbrev pub Run : {State : Type 0} → Answering State → State → List (List ℕ) → List ℕ → State → Type 0
 Run Line old [] text new = (text ≡ []) × (new ≡ old)
 Run {State} Line old (line ∷ lines) text new = (first : List ℕ) × (middle : State) × (others : List ℕ)

@@ -28,55 +28,55 @@ pub enum Command {
     Entry(Cell),
     /// Return the entries of a rectangle, by two opposite corners.
     Entries(Cell, Cell),
-    /// Return the changes after a version: one delta, or at most `most` deltas joined to one.
+    /// Return the changes after a version: the next delta, or at most `most` deltas joined into one.
     Pull {
-        /// The version.
+        /// The version: the number of changes that the client has.
         from: u64,
-        /// The most deltas to join, 1 to 16; none for one delta.
+        /// The most deltas to join, 1 to [`LARGEST_GROUP`]; none for the next delta alone.
         most: Option<u8>,
     },
     /// Take in a delta made elsewhere.
     Push(Delta),
     /// Take in what is new of a delta made elsewhere.
     Merge(Delta),
-    /// Return the own replica, whichever is named beside it.
+    /// Return the number of the own replica. The number in the line, if there is one, makes no difference.
     Replica(Option<u8>),
-    /// Return the version, once there are more changes than this.
+    /// Return the version, once there are more changes than this number.
     Wait(u64),
 }
 
-/// The most deltas that a `pull` joins to one.
+/// The most deltas that a `pull` joins into one.
 pub const LARGEST_GROUP: u64 = 16;
 
 impl Command {
     /// Returns what a line asks for, or why it is refused:
     ///
     /// - `get <cell>`: show a cell;
-    /// - `set <cell> <entry>`: give it what the entry stands for; `set <cell>` makes it blank;
-    /// - `add <cell> <amount>` and `sub <cell> <amount>`: change its counter;
-    /// - `choose <cell> <option>` and `unchoose <cell> <option>`: change its set;
+    /// - `set <cell> <entry>`: assign what the entry stands for to a cell; `set <cell>` makes it blank;
+    /// - `add <cell> <amount>` and `sub <cell> <amount>`: change a cell's counter;
+    /// - `choose <cell> <option>` and `unchoose <cell> <option>`: change a cell's set of options;
     /// - `rows <cell>:<cell>`: show a rectangle;
     /// - `entry <cell>` and `entries <cell>:<cell>`: return the entry of a cell, or those of a rectangle;
     /// - `pull <from>` and `pull <from> <most>`: return deltas;
-    /// - `push <line>`: take in the delta of the line, which is all after the space;
-    /// - `merge <line>`: take in what is new of this delta;
-    /// - `replica`, `replica <number>` and `replica <digest>`: return the own replica;
+    /// - `push <delta>`: take in a delta; its text is all that follows the space;
+    /// - `merge <delta>`: take in what is new of a delta;
+    /// - `replica`, `replica <number>` and `replica <digest>`: return the number of the own replica;
     /// - `wait <number>`: return the version once there are more changes than this.
     ///
-    /// Exactly one space stands between two words; an entry may hold more. `decoder` reads the line of a delta. Only
-    /// the line of a delta and an entry that is a formula or a text take memory. Whether an amount or an option is in
-    /// range, and whether the cell has a counter or a set, isn't checked here.
+    /// Exactly one space stands between two words; an entry may hold more. `decoder` decodes a delta. Only a delta, a
+    /// formula and a text take memory. Whether an amount or an option is in range, and whether the cell has a counter
+    /// or a set, isn't checked here.
     ///
     /// # Errors
     ///
     /// The first of these that holds:
     ///
-    /// - `Command`: another first word, or a word too few or too many;
-    /// - `Cell`: a word that names no cell;
-    /// - `Amount` or `OptionRange`: no digits, or a number of more than 64 bits;
-    /// - `Version`: no digits or more than 64 bits for `pull` and `wait`, or a `most` that isn't 1 to 16;
-    /// - `Replica`: neither a number of 1 to [`REPLICAS`] nor a digest;
-    /// - those of the entry, or `Delta` for a line that is no delta's;
+    /// - `Command`: an unknown first word, or a word too few or too many;
+    /// - `Cell`: a word that names no cell, or corners without exactly one colon between them;
+    /// - `Amount` or `OptionRange`: an amount or option that isn't a decimal number of at most 64 bits;
+    /// - `Version`: a version that isn't such a number, or a `most` that isn't 1 to 16;
+    /// - `Replica`: neither a number of 1 to [`REPLICAS`] nor a digest (16 hex digits in lower case);
+    /// - a refusal of [`read_entry`], or `Delta` for a text that isn't a delta's;
     /// - `Memory`: out of memory.
     ///
     /// Cost: O(n) in the n bytes of the line.
@@ -119,9 +119,9 @@ fn read_alone(verb: Verb) -> Result<Command, Refusal>
     }
 }
 
-/// Reads all after the verb's space.
+/// Reads the rest of a line, after the verb and its space.
 ///
-/// This function and the one for the rarer verbs are inlined, so that no command is moved between them.
+/// This function and [`read_other`] are inlined, so that no command is moved between them.
 #[inline(always)]
 fn read_rest(
     alloc: Global,
@@ -146,7 +146,7 @@ fn read_rest(
     }
 }
 
-/// Reads all after the space of any other verb than `get`, `set`, `add` and `sub`.
+/// Reads the rest of a line, after the verb and its space, for all verbs but `get`, `set`, `add` and `sub`.
 #[inline(always)]
 fn read_other(
     alloc: Global,
@@ -219,7 +219,7 @@ fn read_set(alloc: Global, rest: &[u8]) -> Result<Command, Refusal>
     Ok(Command::Edit(Edit::Set(cell, content)))
 }
 
-/// Reads a cell and a number; `refusal` is for another word than a number.
+/// Reads a cell and a number. Returns `refusal` if the second word isn't a number.
 fn read_change(rest: &[u8], refusal: Refusal) -> Result<(Cell, u64), Refusal>
     ensures { ReadsPair refusal (words rest.now) result }
 {
@@ -229,7 +229,7 @@ fn read_change(rest: &[u8], refusal: Refusal) -> Result<(Cell, u64), Refusal>
     }
 }
 
-/// Reads a cell and a number from two words; the number is the last word.
+/// Reads a cell from one word and a number from the rest of the line, which must be one word.
 fn read_pair(word: &[u8], number: &[u8], refusal: Refusal) -> Result<(Cell, u64), Refusal>
     ensures { ReadsPair refusal (word.now ∷ words number.now) result }
 {
@@ -283,7 +283,7 @@ fn read_merge(alloc: Global, decoder: &mut Decoder, line: &[u8]) -> Result<Comma
     Ok(Command::Merge(decoder.decode(alloc, line)?))
 }
 
-/// Reads the rest of `pull`: a version, and perhaps the size of a group after a space.
+/// Reads the rest of `pull`: a version, and perhaps the most deltas to join after a space.
 fn read_pull(rest: &[u8]) -> Result<Command, Refusal>
     ensures { ReadsPull (words rest.now) result }
 {
@@ -296,7 +296,7 @@ fn read_pull(rest: &[u8]) -> Result<Command, Refusal>
     }
 }
 
-/// Reads the rest of `pull` with a version and the size of a group, and no more words.
+/// Reads the rest of `pull` from a version and the text after it: the most deltas to join, and no more words.
 fn read_group(from: &[u8], rest: &[u8]) -> Result<Command, Refusal>
     ensures { ReadsPull (from.now ∷ words rest.now) result }
 {
@@ -316,7 +316,7 @@ fn read_version(word: &[u8]) -> Result<u64, Refusal>
     read_whole(word).ok_or(Refusal::Version)
 }
 
-/// Reads the size of a group, 1 to [`LARGEST_GROUP`].
+/// Reads the most deltas to join, 1 to [`LARGEST_GROUP`].
 fn read_most(word: &[u8]) -> Result<u8, Refusal>
     ensures { result ≡ ok_or (group_size (whole_number word.now)) Refusal.Version }
 {

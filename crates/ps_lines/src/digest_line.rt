@@ -1,4 +1,4 @@
-//! Recognizes the lines of a kept file that have a digest.
+//! Recognizes the digest lines of a kept file: checksums of the bytes before them.
 ghost use Rattle.std.specs.Prelude.{◌≡◌, Decides};
 ghost use Rattle.std.specs.List.{list_all};
 ghost use Rattle.ps_lines.specs.DigestLine.{IsDigestLine, is_digest, is_digest_digit};
@@ -9,9 +9,9 @@ use crate::words::rest_after;
 /// How many hex digits a digest has.
 const DIGEST_DIGITS: usize = 16;
 
-/// Returns whether a line has a digest, as `replica 0123456789abcdef`: nothing else, and no other spelling.
+/// Returns whether a line is exactly `replica`, one space and a digest: 16 hex digits in lower case.
 ///
-/// A session takes such a line as `replica`, and `squash` passes over it. It says nothing of the sheet.
+/// A session answers such a line as it answers `replica`, and `squash` skips it. It says nothing about the sheet.
 pub fn is_digest_line(line: &[u8]) -> bool
     ensures { Decides result (IsDigestLine line.now) }
 {

@@ -1,4 +1,4 @@
-//! How many deltas one line holds, for a `pull`.
+//! Finds how many deltas a `pull` can return joined on one line.
 
 ghost use Rattle.std.specs.Prelude.{◌≡◌, ◌⊎◌, ◌↔◌, ◌+◌, ◌-◌, ◌<◌, ◌≤◌, Err, IfOk, IfErr, IfSome, IsTrue, length};
 ghost use Rattle.std.specs.Prelude.{sum_by, take, ◌∷◌, []};
@@ -14,20 +14,22 @@ use ps_grid::{Cell, Refusal, Twin};
 use ps_wire::{encode, may_share_line, outgrows_line};
 use std::alloc::Global;
 
-/// With at most this many cells, counts and pairs, the join of all deltas that may share a line is tried first. It
-/// nearly always fits then, and costs little if it doesn't.
+/// If the deltas have at most this many cells, counts and pairs, [`greatest_group`] first tries the join of all deltas
+/// that may share a line. Such a join nearly always fits, and costs little if it doesn't.
 const FEW_PARTS: usize = 512;
 
-/// Returns the greatest number of deltas, at most `most`, whose join has a line that isn't too long, and this line.
+/// Returns how many of the first deltas, at most `most`, can be joined on one line, and that line.
+///
+/// The number is the greatest for which the join's text isn't longer than a line may be.
 ///
 /// # Errors
 ///
-/// - `TooLong`: no number of deltas, 1 to `most`, has such a line.
+/// - `TooLong`: no number from 1 to `most` has such a join.
 /// - `Memory`: out of memory.
 ///
-/// Cost: for one delta that of its line; for a few small ones that of one join and its line. If these don't fit on one
-/// line, and for many or large deltas: a join for each delta, as long as one more may fit. Then a line for each join
-/// that is too long, and that of the line that fits.
+/// Cost: for one delta, writing its line. For a few small deltas, one join and its line. Otherwise, or if that line is
+/// too long: a join for each delta, until one more can't fit. Then the lines of these joins, the longest join first,
+/// until one fits.
 #[inline(always)]
 pub fn greatest_group(
     alloc: Global,
@@ -74,7 +76,7 @@ fn line_alone(alloc: Global, delta: &Delta) -> Result<Vec<u8>, Refusal>
     joint_line(alloc, delta)
 }
 
-/// Returns whether the deltas have at most `most` cells, counts and pairs. One that comes twice counts twice.
+/// Returns whether the deltas have at most `most` cells, counts and pairs. A cell of two deltas counts twice.
 fn have_few_parts(deltas: &[Delta], most: usize) -> bool
     ensures { IsTrue result ↔ (sum_by parts_in deltas.now ≤ most) }
 {
@@ -88,7 +90,7 @@ fn have_few_parts(deltas: &[Delta], most: usize) -> bool
     true
 }
 
-/// Returns what is left of `most` after the cells with their counts and pairs; none if they are more.
+/// Returns `most` less the number of cells, counts and pairs; none if there are more than `most`.
 fn left_after(cells: &[(Cell, CellState)], most: usize) -> Option<usize>
     ensures { SomeIff result (parts_in cells.now ≤ most) (most - parts_in cells.now) }
 {
@@ -102,7 +104,7 @@ fn left_after(cells: &[(Cell, CellState)], most: usize) -> Option<usize>
     Some(left)
 }
 
-/// Returns what is left of `most` after one cell with its counts and pairs; none if they are more.
+/// Returns `most` less one cell and its counts and pairs; none if these are more than `most`.
 fn left_after_one(cell: &(Cell, CellState), most: usize) -> Option<usize>
     ensures { SomeIff result (part_count cell.now ≤ most) (most - part_count cell.now) }
 {
@@ -112,7 +114,7 @@ fn left_after_one(cell: &(Cell, CellState), most: usize) -> Option<usize>
     left.checked_sub(choice.parts().len())
 }
 
-/// Returns the line of the join of the first `count` deltas, if it isn't too long.
+/// Returns the line of the join of the first `count` deltas; none if it is too long.
 fn whole_line(alloc: Global, deltas: &[Delta], count: usize) -> Result<Option<Vec<u8>>, Refusal>
     requires some { 0 < count }
     requires within { count ≤ length deltas.now }
@@ -125,7 +127,7 @@ fn whole_line(alloc: Global, deltas: &[Delta], count: usize) -> Result<Option<Ve
     short_line(alloc, &joint)
 }
 
-/// Returns the line of the delta, if it isn't too long.
+/// Returns the line of the delta; none if it is too long.
 fn short_line(alloc: Global, delta: &Delta) -> Result<Option<Vec<u8>>, Refusal>
     ensures line { IfOk result (λ o. IfSome o (λ line. line.items ≡ delta_text delta.now)) }
     ensures fits { IfOk result (λ o. IfSome o (λ line. length line.items ≤ DELTA_LINE_LIMIT)) }
@@ -138,8 +140,8 @@ fn short_line(alloc: Global, delta: &Delta) -> Result<Option<Vec<u8>>, Refusal>
     }
 }
 
-/// Returns the joins of the first delta, of the first two, and so on: at most `most`, without those that can have no
-/// line.
+/// Returns the joins of the first delta, of the first two, and so on, at most `most` joins. After the first one, it
+/// stops before a join that is surely too long for a line, as then all larger joins are.
 fn joined_upward(alloc: Global, deltas: &[Delta], most: usize) -> Result<Vec<Delta>, Refusal>
     ensures joints { IfOk result (λ js. AreJoints deltas.now most js.items) }
     ensures memory { IfErr result (λ e. e ≡ Refusal.Memory) }
@@ -148,7 +150,7 @@ fn joined_upward(alloc: Global, deltas: &[Delta], most: usize) -> Result<Vec<Del
     let mut joints = Vec::new(alloc);
     'joints: while joints.len() < count {
         let joint = next_joint(alloc, &joints, deltas)?;
-        // a delta alone mostly has a line, and is tried anyway
+        // a single delta nearly always fits, and its line is tried anyway
         if !joints.is_empty() && outgrows_line(&joint) {
             return Ok(joints);
         }
@@ -157,7 +159,7 @@ fn joined_upward(alloc: Global, deltas: &[Delta], most: usize) -> Result<Vec<Del
     Ok(joints)
 }
 
-/// Returns the join of one delta more than the last join has.
+/// Returns the join of the first deltas that has one delta more than the last of `joints`.
 fn next_joint(alloc: Global, joints: &[Delta], deltas: &[Delta]) -> Result<Delta, Refusal>
     requires within { length joints.now < length deltas.now }
     requires joints { AreFirstJoints deltas.now joints.now }
@@ -187,7 +189,7 @@ fn joined_pair(alloc: Global, joint: &Delta, delta: &Delta) -> Result<Delta, Ref
     Ok(joined)
 }
 
-/// Returns the line of the delta.
+/// Returns the line of the delta; refused as `TooLong` if it is too long.
 fn joint_line(alloc: Global, joint: &Delta) -> Result<Vec<u8>, Refusal>
     ensures line { IfOk result (λ line. line.items ≡ delta_text joint.now) }
     ensures fits { IfOk result (λ line. length line.items ≤ DELTA_LINE_LIMIT) }

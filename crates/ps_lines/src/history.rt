@@ -1,18 +1,18 @@
-//! The deltas that a `pull` asks for.
+//! Finds the deltas that a `pull` asks for.
 ghost use Rattle.std.specs.Prelude.{◌≡◌, ◌⊎◌, ◌↔◌, ◌<◌, Err, IfErr, IfOk, drop, length, take};
 
 use ps_delta::Delta;
 use ps_grid::{Refusal, Twin};
 use std::alloc::Global;
 
-/// Returns at most `most` deltas of a history, in order, from the one after the first `from` on.
+/// Returns copies of the deltas that follow the first `from` of a history, in order, and no more than `most` of them.
 ///
 /// # Errors
 ///
 /// - `Version`: the history has fewer than `from` deltas.
 /// - `Memory`: out of memory; only if there is a delta to return.
 ///
-/// Cost: that of a twin of each delta that is returned.
+/// Cost: that of a [`Twin`] of each delta that is returned.
 // Inlined with its callee, as a pull of one delta is cheap.
 #[inline(always)]
 pub fn deltas_after(

@@ -11,16 +11,16 @@ use std::alloc::{AllocError, Global};
 pub enum LineFault {
     /// The source failed.
     Failed,
-    /// The source ended right after the line before.
+    /// The source ended before the line began.
     Ended,
     /// The source ended in the middle of a line, or the line is too long.
     Broken,
 }
 
-/// What a call of [`Incoming::next_line`] read: a line, or the end of the source.
+/// What a call of [`Incoming::next_line`] read: a line, the end of the source, or both.
 #[derive(Clone, Copy, PartialEq, Eq)]
 pub struct NextLine {
-    /// What ended; `Line::None` only at the end of the source.
+    /// The kind of line that was read; [`Line::None`] only at the end of the source.
     pub line: Line,
     /// Whether the source has ended.
     pub is_last: bool,
@@ -42,7 +42,7 @@ pub struct Incoming<S: Source + Drop> {
 }
 
 impl NextLine {
-    /// A line that a line feed ended.
+    /// Creates the result for a line that a line feed ended.
     fn inside(line: Line) -> NextLine
         ensures { result ≡ record { line = line; is_last = false } }
     {
@@ -63,7 +63,7 @@ impl<S: Source + Drop> Incoming<S> {
 
     /// Creates a reader that has read nothing of the source yet. Fails when out of memory.
     ///
-    /// Cost: the room of a line and of a piece.
+    /// Cost: allocates the room for one line and for [`PIECE_BYTES`] bytes of the source.
     pub fn new(alloc: Global, source: S) -> Result<Incoming<S>, AllocError>
         ensures source { IfOk result (λ new. new.source ≡ source) }
         ensures none { IfOk result (λ new. (new.start ≡ 0) × (new.end ≡ 0)) }
@@ -87,7 +87,7 @@ impl<S: Source + Drop> Incoming<S> {
         self.lines.line()
     }
 
-    /// Reads to the next line feed.
+    /// Reads up to and with the next line feed. [`Incoming::line`] then returns the line.
     ///
     /// Cost: linear in the bytes of the line, and the time that the source takes.
     pub fn read_line(&mut self) -> Result<(), LineFault>
@@ -117,7 +117,9 @@ impl<S: Source + Drop> Incoming<S> {
         }
     }
 
-    /// Reads to the next line feed or the end of the source. What remains at the end is a line too.
+    /// Reads up to and with the next line feed, or to the end of the source. [`Incoming::line`] then returns the line.
+    ///
+    /// Bytes that remain at the end without a line feed are a line, too. Fails only if the source fails.
     ///
     /// Cost: linear in the bytes of the line, and the time that the source takes.
     pub fn next_line(&mut self) -> Result<NextLine, Failed>
@@ -164,7 +166,8 @@ impl<S: Source + Drop> Incoming<S> {
         fed.line
     }
 
-    /// Reads from the source once all earlier bytes are taken in, and returns whether any byte waits.
+    /// Reads from the source if no byte in `piece` is left. Returns whether `piece` then has bytes to take in; it has
+    /// none only at the end of the source.
     fn fill(&mut self) -> Result<bool, Failed>
         ensures lines { self.new.lines ≡ self.old.lines }
         ensures same { Keeps (due S.remaining self.old) (due S.remaining self.new) }

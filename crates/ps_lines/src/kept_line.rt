@@ -1,4 +1,4 @@
-//! Reads a line of a kept file.
+//! Reads a line of a kept file, which stores a sheet's changes as lines of text.
 ghost use Rattle.std.specs.Prelude.{◌≡◌, ◌⊎◌, Err, IfErr, IfOk, MatchOption};
 ghost use Rattle.ps_delta.specs.Deltas.{Entries};
 ghost use Rattle.ps_lines.specs.PushLine.{IsPush, Pushes};
@@ -19,16 +19,16 @@ use std::alloc::Global;
 /// What a line of a kept file says.
 #[derive(Drop)]
 pub enum KeptLine {
-    /// The replica of this number wrote the lines after this one.
+    /// The number of the replica that wrote the lines after this one.
     Replica(u8),
-    /// One change: this delta.
+    /// The delta of one change.
     Push(Delta),
 }
 
-/// Returns what a line of a kept file says: its replica, or the delta that it pushes; none if it says neither.
+/// Returns what a line of a kept file says: the number of a replica, or the delta of a change; none if it says neither.
 ///
-/// The replica's line must have the exact spelling of a kept file; a delta may have any spelling. The line is read by
-/// [`Command::read`]. `decoder` reads the line of a delta.
+/// A replica's line must be spelled exactly as [`crate::put_replica_line`] writes it. A delta may have any spelling
+/// that [`Command::read`] accepts. `decoder` decodes the delta.
 ///
 /// # Errors
 ///
@@ -61,7 +61,7 @@ pub fn read_kept_line(
         }
         Ok(Command::Replica(None)) => Ok(None),
         Ok(_) => unreachable!(),
-        // a word too few or too many, or no replica's number
+        // a word too few or too many, or not the number of a replica
         Err(Refusal::Command) => Ok(None),
         Err(Refusal::Replica) => Ok(None),
         Err(Refusal::Delta) => Err(Refusal::Delta),

@@ -1,13 +1,15 @@
-//! Reads the lines of a session and of a kept file, and writes the replies.
+//! Reads the lines of a session and of a kept file, and writes the replies. A kept file stores a sheet's changes as
+//! lines of text.
 //!
-//! - A [`LineBuffer`] puts bytes together to lines, in whatever pieces they come. An [`Incoming`] reads the lines of a
-//!   source.
+//! - A [`LineBuffer`] joins bytes into lines, however the input is cut into pieces. An [`Incoming`] reads the lines of
+//!   a source.
 //! - A [`Command`] is what a line asks for, and a [`Verb`] its first word.
-//! - A [`Reply`] is the answer to a line. [`send`] writes it, and a [`Watcher`] observes it.
-//! - A [`KeptLine`] is what a line of a kept file says. [`is_digest_line`] tells those that have a digest of it.
-//! - [`deltas_after`] and [`greatest_group`] find the answer to a `pull` in a list of deltas.
+//! - A [`Reply`] is the answer to a line. [`send`] writes it. A [`Watcher`] observes lines and their outcomes.
+//! - A [`KeptLine`] is what a line of a kept file says. [`is_digest_line`] recognizes its checksum lines.
+//! - [`deltas_after`] and [`greatest_group`] find the answer to a `pull` in a list of deltas. A delta is one change of
+//!   a sheet. A history is the list of a sheet's deltas, in order, and its length is the sheet's version.
 //!
-//! This crate knows no sheet: the session decides what a command does and what its reply holds.
+//! This crate has no sheet: the session decides what a command does and what its reply holds.
 //!
 //! The contract to use is that of [`Command::read`]: what a line asks for, or the first refusal that holds
 //! (`ReadsLine`, in `specs/Commands.antt`). A line is refused as out of memory only if reading it allocates. The
@@ -17,7 +19,7 @@
 //! The line `set A1 5` is a command, and `ok 1` with a line feed a reply. The line `push [["A1",[1,1,"5"],[],[]]]`
 //! pushes a delta, in a session and in a kept file.
 //!
-//! Cost: linear in the bytes of a line; the room of one line is allocated once.
+//! Cost: linear in the bytes of a line. A reader allocates the room for its lines once, when it is created.
 #![tactic(auto)]
 
 mod command;

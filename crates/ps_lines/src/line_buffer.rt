@@ -1,4 +1,4 @@
-//! The buffer that puts bytes together to lines.
+//! The buffer that joins bytes into lines.
 ghost use Rattle.std.specs.Prelude.{◌≡◌, ◌+◌, ◌<◌, ◌≤◌, Some, None, [], IfOk, IfSome, length, take, vec_len};
 ghost use Rattle.std.specs.Prelude.{if◌then◌else◌, vec_capacity};
 ghost use Rattle.std.specs.Bool.{OnTrue};
@@ -12,7 +12,7 @@ use std::marker::Model;
 /// The greatest number of bytes of a line, without its line feed.
 pub const LINE_LIMIT: usize = 262_208;
 
-/// What a piece of the input ended.
+/// The line that a piece of the input ended, if it ended one.
 #[derive(Clone, Copy, PartialEq, Eq)]
 pub enum Line {
     /// No line.
@@ -23,16 +23,16 @@ pub enum Line {
     TooLong,
 }
 
-/// The number of bytes of a piece that were taken in, and what they ended.
+/// How many bytes of a piece [`LineBuffer::feed`] took in, and the line that they ended.
 #[derive(Clone, Copy, PartialEq, Eq)]
 pub struct Fed {
     /// The number of bytes taken, from the piece's first on.
     pub taken: usize,
-    /// What the last of them ended.
+    /// The line that the last of these bytes ended; [`Line::None`] if it ended none.
     pub line: Line,
 }
 
-/// A buffer that puts bytes together to lines, in whatever pieces the bytes come.
+/// A buffer that joins bytes into lines, however the input is cut into pieces.
 #[derive(Drop)]
 pub struct LineBuffer {
     /// The bytes of the line so far, or of the line that ended last.
@@ -59,7 +59,7 @@ impl Model for LineBuffer {
     ghost invariant = { λ s. (vec_len s.bytes ≤ LINE_LIMIT) × (LINE_LIMIT ≤ vec_capacity s.bytes) };
 }
 
-/// Drops a line that has ended, and returns whether the line that goes on is too long.
+/// Drops the bytes of a line that has ended. Returns whether the line that comes next or goes on is already too long.
 fn begin(bytes: &mut Vec<u8>, too_long: bool, ended: bool) -> bool
     ensures held { held result bytes.new.items ≡ (if ended then Some [] else held too_long bytes.old.items) }
     ensures fits { vec_len bytes.new ≤ vec_len bytes.old }
@@ -72,7 +72,7 @@ fn begin(bytes: &mut Vec<u8>, too_long: bool, ended: bool) -> bool
     too_long
 }
 
-/// Returns whether no byte of a line is held.
+/// Returns whether the buffer holds no byte of a line that hasn't ended.
 fn holds_none(bytes: &[u8], too_long: bool, ended: bool) -> bool
     ensures { OnTrue result ((if ended then Some [] else held too_long bytes.now) ≡ Some []) }
 {
@@ -101,7 +101,7 @@ fn keep(bytes: &mut Vec<u8>, too_long: bool, part: &[u8]) -> bool
     false
 }
 
-/// Returns the line without the carriage return at its end, if it has one.
+/// Returns the line without a carriage return at its end.
 pub fn trimmed(bytes: &[u8]) -> &[u8]
     ensures { result.now ≡ without_return bytes.now }
 {
@@ -117,7 +117,7 @@ impl LineBuffer {
 
     /// Creates an empty buffer, with room for one line. Fails when out of memory.
     ///
-    /// Cost: the room of one line.
+    /// Cost: allocates [`LINE_LIMIT`] bytes.
     pub fn new(alloc: Global) -> Result<LineBuffer, AllocError>
         ensures { IfOk result (λ s. s.pending ≡ Some []) }
     {
@@ -128,7 +128,9 @@ impl LineBuffer {
         })
     }
 
-    /// Takes in the piece up to its first line feed, or all of it if it has none. Takes no memory.
+    /// Takes in the piece up to its first line feed, or all of it if it has none, and returns what it took.
+    ///
+    /// Drops the line that ended last. Never allocates.
     ///
     /// Cost: O(n) in the n bytes taken.
     pub fn feed(&mut self, piece: &[u8]) -> Fed
@@ -157,10 +159,10 @@ impl LineBuffer {
         }
     }
 
-    /// Returns the position of the line feed of a line that lies whole at the front of the piece.
+    /// Returns the position of the first line feed, if the piece begins with a whole line.
     ///
-    /// Returns none if a byte of a line is held, if the piece has no line feed, or if the line is too long. The line
-    /// needn't be fed: `&piece[..position]` is the line.
+    /// Then `&piece[..position]` is the line, and it needn't be fed. Returns none if the buffer holds bytes of a line
+    /// that hasn't ended, if the piece has no line feed, or if the line is too long.
     ///
     /// Cost: O(n) in the n bytes up to the position.
     pub fn whole_line(&self, piece: &[u8]) -> Option<usize>
@@ -178,7 +180,7 @@ impl LineBuffer {
         }
     }
 
-    /// Ends the input: what remains without a line feed is a line, unless it is empty.
+    /// Ends the input, and returns the line that remains without a line feed; [`Line::None`] if no byte remains.
     pub fn end(&mut self) -> Line
         ensures { Ends self.old self.new result }
     {

@@ -11,11 +11,12 @@ use ps_grid::Refusal;
 use ps_wire::encode;
 use std::alloc::Global;
 
-/// Appends the line that pushes a delta, without a line feed. After an error a beginning of the line may be appended.
+/// Appends the `push` line of a delta to `text`, without a line feed. After an error, `text` may end with a beginning
+/// of that line.
 ///
 /// # Errors
 ///
-/// - `TooLong`: the delta has no line, as its text is too long.
+/// - `TooLong`: the delta's text is longer than a line may be (`DELTA_LINE_LIMIT` of `ps_wire`).
 /// - `Memory`: out of memory.
 ///
 /// Cost: that of [`encode`].
@@ -30,7 +31,7 @@ pub fn put_push_line(alloc: Global, delta: &Delta, text: &mut Vec<u8>) -> Result
     encode(alloc, delta, text)
 }
 
-/// Returns the pieces of the line that pushes the delta of this line, with its line feed.
+/// Returns the pieces of a `push` line, with its line feed. `delta` is the text of a delta, as [`encode`] writes it.
 pub fn push_pieces(delta: &[u8]) -> [&[u8]; 4]
     ensures { flat_map (λ piece. piece.now) result ≡ push_text delta.now }
 {

@@ -7,7 +7,7 @@ use crate::words::rest_after;
 use itoa::Buffer;
 use std::alloc::{AllocError, Global};
 
-/// Appends the line of a replica, without a line feed. Fails when out of memory.
+/// Appends `replica` and the number of a replica to `text`, without a line feed. Fails when out of memory.
 pub fn put_replica_line(replica: u8, text: &mut Vec<u8>) -> Result<(), AllocError>
     ensures { OnOk result (text.new.items ≡ text.old.items ++ replica_line replica) }
 {
@@ -18,7 +18,7 @@ pub fn put_replica_line(replica: u8, text: &mut Vec<u8>) -> Result<(), AllocErro
     Ok(())
 }
 
-/// Returns the line of a replica, without a line feed. Fails when out of memory.
+/// Returns the line that [`put_replica_line`] writes for a replica, without a line feed. Fails when out of memory.
 pub fn line_of_replica(alloc: Global, replica: u8) -> Result<Vec<u8>, AllocError>
     ensures { IfOk result (λ line. line.items ≡ replica_line replica) }
 {
@@ -27,7 +27,7 @@ pub fn line_of_replica(alloc: Global, replica: u8) -> Result<Vec<u8>, AllocError
     Ok(line)
 }
 
-/// Returns whether a line is exactly that of the replica. As a number, 7 has other spellings, such as 07.
+/// Returns whether a line is exactly the one that [`put_replica_line`] writes. For replica 7, `replica 07` isn't.
 pub(crate) fn is_replica_line(line: &[u8], replica: u8) -> bool
     ensures { Decides result (line.now ≡ replica_line replica) }
 {

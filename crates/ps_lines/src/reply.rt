@@ -13,12 +13,14 @@ use ps_device::{Failed, Sink, put_all};
 use ps_grid::Refusal;
 use ps_value::{Value, write_shown};
 
-/// The reply to a line. Each variant is named with the reply's first word and what follows it.
+/// The reply to a line. Each variant's comment gives the reply's first word and what follows it. The version is the
+/// number of changes in the sheet's history.
 #[derive(Drop)]
 pub enum Reply {
     /// `ok` and the version.
     Done(u64),
-    /// The same text as `Done`, for a delta that had changes of the own replica which the board hadn't.
+    /// The same text as `Done`, for a pushed delta with changes of the own replica that the sheet lacked. See
+    /// [`Outcome::Elsewhere`].
     DoneElsewhere(u64),
     /// `same` and the version: nothing of a merged delta was new.
     Same(u64),
@@ -26,13 +28,13 @@ pub enum Reply {
     Shown(Value),
     /// `rows`, the number of lines of a table, and then these lines, each with its line feed.
     Rows(u64, Vec<u8>),
-    /// `entry` and what the cell holds.
+    /// `entry` and the entry of a cell.
     Entry(Vec<u8>),
     /// `entries`, the number of lines of a table of entries, and then these lines, each with its line feed.
     Entries(u64, Vec<u8>),
-    /// `delta`, the version after the delta, and its line.
+    /// `delta`, the version after the delta, and the delta's line.
     Delta(u64, Vec<u8>),
-    /// `end` and the version.
+    /// `end` and the version: a `pull` found no more deltas.
     End(u64),
     /// `replica` and the number of the own replica.
     Replica(u8),
@@ -43,7 +45,7 @@ pub enum Reply {
 }
 
 impl Reply {
-    /// Returns what became of the line, for an observer.
+    /// Returns the outcome of the line, which a [`crate::Watcher`] sees.
     pub fn outcome(&self) -> Outcome {
         match self {
             Reply::Refused(refusal) => Outcome::Refused(*refusal),
@@ -62,7 +64,7 @@ impl Reply {
     }
 }
 
-/// Writes the pieces one after another. If the sink fails, a beginning of them is written.
+/// Writes the pieces one after another. If the sink fails, it has only a beginning of them.
 ///
 /// Cost: O(n) in the n bytes of the pieces.
 pub fn send_pieces<K: Sink>(pieces: &[&[u8]], sink: &mut K) -> Result<(), Failed>
@@ -90,7 +92,7 @@ fn send_value<K: Sink>(value: Value, sink: &mut K) -> Result<(), Failed>
     Ok(())
 }
 
-/// Writes `val` and what a cell shows.
+/// Writes `val`, what a cell shows and a line feed, in pieces.
 fn send_other<K: Sink>(value: Value, sink: &mut K) -> Result<(), Failed>
     ensures sent { Sends (K.contents sink.old) (K.contents sink.new) result
         (codes "val " ++ (shown_text value ++ 10 ∷ [])) }
@@ -102,7 +104,7 @@ fn send_other<K: Sink>(value: Value, sink: &mut K) -> Result<(), Failed>
     Ok(())
 }
 
-/// Writes `val` and what a cell shows; a number in one piece.
+/// Writes `val`, what a cell shows and a line feed. A number is written in one piece.
 #[inline(always)]
 fn send_shown<K: Sink>(value: &Value, sink: &mut K) -> Result<(), Failed>
     ensures sent { Sends (K.contents sink.old) (K.contents sink.new) result
@@ -118,7 +120,7 @@ fn send_shown<K: Sink>(value: &Value, sink: &mut K) -> Result<(), Failed>
     }
 }
 
-/// Writes a reply and its line feed. If the sink fails, a beginning of them is written.
+/// Writes a reply and its line feed. If the sink fails, it has only a beginning of them.
 ///
 /// Cost: O(n) in the n bytes of the reply, in a constant number of pieces.
 #[inline(always)]
@@ -147,7 +149,7 @@ pub fn send<K: Sink>(reply: &Reply, sink: &mut K) -> Result<(), Failed>
     }
 }
 
-/// The most bytes of a word with its space, a number and a line feed, and a few more.
+/// The bytes of a line's buffer: a word with its space (at most 11), a number (at most 20) and a line feed.
 const ROOM: usize = 32;
 
 /// Writes a word with its space, a number and a line feed, in one piece.
@@ -221,7 +223,7 @@ fn write_before(bytes: &[u8], line: &mut [u8], end: usize) -> usize
     start
 }
 
-/// Writes a word with its space, a number, a space and a text, and a line feed. All before the text is one piece.
+/// Writes a word with its space, a number, a space, a text and a line feed. The part before the text is one piece.
 fn send_words<K: Sink>(word: &[u8], number: u64, text: &[u8], sink: &mut K) -> Result<(), Failed>
     requires short { length word.now ≤ 11 }
     ensures sent { Sends (K.contents sink.old) (K.contents sink.new) result

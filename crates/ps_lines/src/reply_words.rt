@@ -1,6 +1,7 @@
 //! The first word of each reply, with its space, for whoever writes or reads a reply.
 //!
-//! The page reads no lines and has its own `rows ` and `entries `. The hints have their own `delta `.
+//! Two other sources repeat some of these words: the web page has its own `rows` and `entries`, `ps_hints` its own
+//! `delta `.
 
 /// The word of [`Reply::Done`](crate::Reply::Done).
 pub const OK: &[u8] = b"ok ";

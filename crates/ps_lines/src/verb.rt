@@ -25,12 +25,12 @@ pub(crate) const PUSH: &str = "push";
 
 const MERGE: &str = "merge";
 
-/// The word of [`Verb::Pull`], for a client that asks a peer.
+/// The word of [`Verb::Pull`], for clients that write such a line to a peer.
 pub const PULL: &str = "pull";
 
 pub(crate) const REPLICA: &str = "replica";
 
-/// The word of [`Verb::Wait`], for a session that looks ahead.
+/// The word of [`Verb::Wait`], for clients that write such a line, and for sessions that look for one in their input.
 pub const WAIT: &str = "wait";
 
 /// What a line asks for, by its first word.
@@ -38,7 +38,7 @@ pub const WAIT: &str = "wait";
 pub enum Verb {
     /// `get`: show a cell.
     Get,
-    /// `set`: give a cell what an entry stands for.
+    /// `set`: assign what an entry stands for to a cell.
     Set,
     /// `add`: add an amount to a counter.
     Add,
@@ -60,7 +60,7 @@ pub enum Verb {
     Merge,
     /// `pull`: return deltas.
     Pull,
-    /// `replica`: return the own replica.
+    /// `replica`: return the number of the own replica.
     Replica,
     /// `wait`: return the version once there are more changes.
     Wait,
@@ -112,7 +112,7 @@ impl Verb {
         }
     }
 
-    /// Returns the verb of a word, if it is one.
+    /// Returns the verb that a word names; none for any other word.
     #[inline(always)]
     #[tactic(auto, unfolding(crate::specs::Commands::verb_of))]
     pub fn read(word: &[u8]) -> Option<Verb>

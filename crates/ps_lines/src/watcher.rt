@@ -2,23 +2,23 @@
 
 use ps_grid::Refusal;
 
-/// What became of a line.
+/// How a session dealt with a line.
 #[derive(Clone, Copy)]
 pub enum Outcome {
-    /// It was answered, or it is empty.
+    /// The line was answered, or it is empty.
     Answered,
-    /// It was refused.
+    /// The line was refused.
     Refused(Refusal),
-    /// It was answered, and it pushed changes of the own replica that the sheet hadn't. So the replica's number is used
-    /// elsewhere, too, or changes were lost.
+    /// The line was answered, and it pushed changes of the own replica that the sheet lacked. So another sheet uses the
+    /// replica's number, too, or this sheet has lost changes.
     Elsewhere,
 }
 
-/// An observer of a session's lines. It can't change what the session does, so its call promises nothing.
+/// An observer of a session's lines. It can't change what the session does, so its method has no contract.
 pub trait Watcher {
-    /// Sees a line that ended, without its line feed and a carriage return before it, and its outcome.
+    /// Observes a line and its outcome. `line` has neither its line feed nor a carriage return before it.
     ///
-    /// An empty line is seen, too. A line that is too long is seen as an empty one: none of its bytes is stored.
+    /// Empty lines are observed, too. A line that is too long is passed as an empty one, since its bytes aren't stored.
     ///
     /// Cost: the watcher's own.
     fn saw(&mut self, line: &[u8], outcome: Outcome);

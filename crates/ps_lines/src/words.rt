@@ -42,7 +42,7 @@ fn first_place(text: &[u8], separator: u8) -> Option<usize>
     text.iter().position(|b| *b == separator)
 }
 
-/// Returns what stands after a word and a space, if the text begins with them.
+/// Returns the rest of the text after a word and a space, if the text begins with them.
 pub(crate) fn rest_after<'a>(text: &'a [u8], word: &str) -> Option<&'a [u8]>
     ensures { MatchOption result ((rest : List ℕ) → text.now ≢ word.now ++ 32 ∷ rest)
         (λ rest. text.now ≡ word.now ++ 32 ∷ rest.now) }
@@ -50,7 +50,7 @@ pub(crate) fn rest_after<'a>(text: &'a [u8], word: &str) -> Option<&'a [u8]>
     text.strip_prefix(word.as_bytes())?.strip_prefix(b" ")
 }
 
-/// Returns the number that decimal digits write; none for any other word, or a number of more than 64 bits.
+/// Reads a word of decimal digits as a number; none for any other word, or a number of more than 64 bits.
 ///
 /// Cost: O(n) in the n bytes of the word.
 pub fn read_whole(word: &[u8]) -> Option<u64>

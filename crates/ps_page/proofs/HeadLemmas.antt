@@ -41,7 +41,7 @@ answered buf (Answer.Live key) a = inl a
 answered buf (Answer.News key) a = inl a
 answered buf (Answer.Refuse r) a = inl a
 
--- what the spans of a whole head are answered by, the bytes are
+-- the answer to the spans of a whole head is the answer to its bytes
 pub whole_answered : (buf : List ℕ) (headers : List HeaderSpan) (r : RequestSpans) (answer : Answer)
     → IsRequestOf buf headers r → r.len ≡ length buf
     → AnswersHead (span_bytes buf r.method) r.version (span_bytes buf r.path)

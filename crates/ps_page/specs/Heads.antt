@@ -49,7 +49,7 @@ is_own_host None = false
 is_own_host (Some text) =
     is_named text (codes "127.0.0.1") || is_named text (codes "localhost") || is_named text (codes "[::1]")
 
--- the text is these two, one after the other
+-- the text is `first` and then `second`
 abbrev pub follows : List ℕ → List ℕ → List ℕ → Bool
 follows text first second =
     cond (nat_lt (length text) (length first)) false
@@ -66,8 +66,8 @@ pub data Verdict : Type 0 where
   page about live news : Verdict
   refusal : Refused → Verdict
 
--- a foreign host is refused first, so that no name that a foreign page has resolved to this machine gets further; a
--- WebSocket, for a session or for the news, goes only to a page of the same host and port
+-- A foreign host is refused first: a foreign page may have a name of its own that resolves to this machine. A
+-- WebSocket, for a session or for the news, is opened only for a page of the same host and port
 abbrev pub verdict : List ℕ → List ℕ → Fields → Verdict
 verdict method path fields =
     cond (not (is_own_host (only_value fields (codes "Host")))) (refusal Forbidden)
@@ -79,7 +79,7 @@ verdict method path fields =
     (refusal Forbidden)
     (cond (bytes_eq path (codes "/news")) news live))))))
 
--- an upgrade with a valid key is answered by its accept key, in this way
+-- an upgrade with a valid key is answered by `opened`, with the accept key; any other one is refused
 abbrev pub Opens : (List ℕ → Answer) → Result (List ℕ) HandshakeError → Answer → Type 0
 Opens opened (Err e) answer = answer ≡ Answer.Refuse BadRequest
 Opens opened (Ok key) answer =
@@ -104,7 +104,7 @@ Answers buf answer =
     (h : RequestHead) × ReadsRequest buf h []
     × AnswersHead h.method h.minor h.target (map name_and_value h.fields) answer
 
--- the bytes are no head of at most 64 fields
+-- these bytes aren't exactly a head of at most 64 fields
 abbrev pub IsNoHead : List ℕ → Type 0
 IsNoHead buf = (h : RequestHead) → ReadsRequest buf h [] → 64 < length h.fields
 
@@ -113,14 +113,14 @@ abbrev pub AnswersBytes : List ℕ → Answer → Type 0
 AnswersBytes buf Answer.More = HasNoRequest buf × MayBecomeRequest buf
 AnswersBytes buf answer = Answers buf answer ⊎ ((answer ≡ Answer.Refuse BadRequest) × IsNoHead buf)
 
--- the answer to the bytes of a head: they are too many and refused as such, or at most `HEAD_LIMIT` and enough
+-- the answer to the bytes that were read: `TooLarge` to more than `HEAD_LIMIT`, and to others not `More`
 abbrev pub AnswersRead : List ℕ → Answer → Type 0
 AnswersRead bytes answer =
     ((HEAD_LIMIT < length bytes) × (answer ≡ Answer.Refuse TooLarge))
     ⊎ ((length bytes ≤ HEAD_LIMIT) × (answer ≢ Answer.More) × AnswersBytes bytes answer)
 
--- the answer to a reader that had `old` to come and has `new`: that to the bytes that it returned, or that they came
--- too late
+-- the answer to a reader whose bytes to come were `old`, and are `new` after it: the answer to the bytes that it
+-- returned, or `TooLate`
 abbrev pub AnswersReader : Option (List ℕ) → Option (List ℕ) → Answer → Type 0
 AnswersReader old new answer =
     (answer ≡ Answer.Refuse TooLate) ⊎ ((bytes : List ℕ) × Consumes old new bytes × AnswersRead bytes answer)

@@ -24,11 +24,11 @@ carriage_return = 13
 abbrev pub ended : List ℕ → List ℕ
 ended line = line ++ line_feed ∷ []
 
--- a message that is one line, neither empty nor divided
+-- the message is one line: it isn't empty, and has no byte that ends a line
 abbrev pub is_line : List ℕ → Bool
 is_line line = nat_lt 0 (length line) && list_all (λ b. not (b == line_feed) && not (b == carriage_return)) line
 
--- a message that says nothing to a session
+-- a message that a session ignores
 abbrev pub IsIdle : Message → Type 0
 IsIdle (Message.Text s) = ⊥
 IsIdle (Message.Binary s) = ⊥
@@ -36,7 +36,8 @@ IsIdle (Message.Ping s) = ⊤
 IsIdle (Message.Pong s) = ⊤
 IsIdle (Message.Close frame) = ⊤
 
--- HEARD: the socket read one message. It was one line, which `bytes` has with a line feed; or it says nothing
+-- HEARD: `Line` says that the socket read one message, which was one line, and that `bytes` has it with a line feed.
+-- `Idle` says that the socket read a message that a session ignores
 abbrev pub Hears : {S : Type 0} → (S → Option (List ℕ)) → Socket S → Socket S → List ℕ → Heard → Type 0
 Hears remaining old new bytes Line =
     (message : Message) × (line : List ℕ) × Reads remaining old new (Ok message) × (content_of message ≡ text line)
@@ -55,10 +56,10 @@ Greets old new Answered = ⊤
 abbrev pub version_text : ℕ → List ℕ
 version_text version = codes "version " ++ decimal version
 
--- the facts about a sheet: how many are here, and its title, a line each
+-- the facts about a sheet, a line each: how many browsers have a session, and its title
 abbrev pub about_lines : ℕ → List ℕ → List ℕ
 about_lines here title = decimal here ++ line_feed ∷ title ++ line_feed ∷ []
 
--- the response to a request that has these lines
+-- the response to `/about` with these lines as its body
 abbrev pub about_text : List ℕ → List ℕ
 about_text lines = ABOUT_HEAD.now ++ decimal (length lines) ++ codes "\r\n\r\n" ++ lines

@@ -28,15 +28,15 @@ const PIECE_BYTES: usize = 4096;
 /// What the connection of a browser is after its request was read.
 #[derive(Clone, Copy, Debug, PartialEq, Eq)]
 pub enum Greeted {
-    /// Its request was answered.
+    /// It is finished: its request was answered, or couldn't be read.
     Answered,
-    /// It is now the WebSocket of a session.
+    /// It is now the WebSocket of a session: messages are lines and replies.
     Live,
-    /// It is now a WebSocket that reports changes.
+    /// It is now a WebSocket on which the server reports the number of changes.
     News,
 }
 
-/// A connection that can be read until a time.
+/// A reader of a connection, which fails with `TimedOut` from `end` on.
 #[derive(Drop)]
 struct Timed<'a, C: Clock> {
     stream: &'a TcpStream,
@@ -57,7 +57,7 @@ impl<C: Clock> Read for Timed<'_, C> {
     }
 }
 
-/// Returns a connection that can be read for this time from now on.
+/// Returns a reader of a connection that fails once `time` has passed; none if the clock fails.
 fn until<'a, C: Clock>(
     clock: &'a C,
     stream: &'a TcpStream,
@@ -69,7 +69,8 @@ fn until<'a, C: Clock>(
 
 /// Answers the request of a browser; its first bytes, `front`, were read already.
 ///
-/// The browser has ten seconds for the rest of the head. The output of an answered connection is ended.
+/// The browser has ten seconds for the rest of the head, and ten for each write. Unless a WebSocket is opened, the
+/// output is shut down at the end, and the rest of the input is read for at most a second, as [`drain`] does.
 ///
 /// Cost: linear in the bytes of the head and of the page, and the time that the browser takes.
 pub fn greet<C: Clock>(
@@ -93,6 +94,8 @@ pub fn greet<C: Clock>(
 }
 
 /// Reads the head of a request, and answers it.
+///
+/// Returns `Answered`, too, if reading or writing fails, or when out of memory.
 ///
 /// Cost: linear in the bytes of the head and of the page, and the time that both sides take.
 pub fn answer_request<R: Read, W: Write>(
@@ -133,13 +136,15 @@ pub fn answer_request<R: Read, W: Write>(
     Greeted::Answered
 }
 
-/// Writes the response that opens a WebSocket, and returns whether it could.
+/// Writes the response that opens a WebSocket, and returns whether that succeeded. `accept` is the value of
+/// `Sec-WebSocket-Accept`.
 fn is_opened<W: Write>(alloc: Global, accept: &[u8; 28], writer: &mut W) -> bool {
     let mut head = Vec::new(alloc);
     write_response(accept, &[], &mut head).is_ok() && writer.write_all(head.as_slice()).is_ok()
 }
 
-/// Ends the output, and reads what still comes, for at most `time`. So no response is lost by input that wasn't read.
+/// Shuts down the output, and reads and drops the input to its end, for at most `time`. If a connection is closed with
+/// unread input, the system resets it, and the peer may lose the response.
 ///
 /// Cost: up to 256 reads.
 pub fn drain<C: Clock>(clock: &C, stream: &TcpStream, time: Duration) {

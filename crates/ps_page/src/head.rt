@@ -17,15 +17,16 @@ use std::alloc::Global;
 use std::io::{ErrorKind, Read};
 use websocket::handshake::server::check_request;
 
-/// The greatest number of fields of a head.
+/// The greatest number of fields in the head of a request.
 pub const MOST_FIELDS: usize = 64;
 
 /// Why a request is refused.
 #[derive(Clone, Copy, Debug, PartialEq, Eq)]
 pub enum Refused {
-    /// 400: no request of HTTP/1, or no upgrade at the path of a WebSocket.
+    /// 400: not just the head of a request of HTTP/1, more than [`MOST_FIELDS`] fields, or no valid upgrade at the path
+    /// of a WebSocket.
     BadRequest,
-    /// 403: the `Host` or the `Origin` is not this server's.
+    /// 403: the `Host` isn't this machine, or the `Origin` at the path of a WebSocket isn't this server's page.
     Forbidden,
     /// 404: nothing is at this path.
     NotFound,
@@ -35,7 +36,7 @@ pub enum Refused {
     TooLate,
     /// 431: the head is too long.
     TooLarge,
-    /// 503: as many as may be are served so already.
+    /// 503: as many browsers follow the changes already as may.
     Unavailable,
 }
 
@@ -46,17 +47,17 @@ pub enum Answer {
     More,
     /// The page.
     Page,
-    /// The facts about the sheet: how many are here, and its title.
+    /// The facts about the sheet: how many browsers have a session, and its title.
     About,
     /// A WebSocket for a session, with the value of `Sec-WebSocket-Accept`.
     Live([u8; 28]),
-    /// A WebSocket that reports changes, with the same value.
+    /// A WebSocket that reports the number of changes, with the value of `Sec-WebSocket-Accept`.
     News([u8; 28]),
     /// A refusal.
     Refuse(Refused),
 }
 
-/// Returns the answer to these bytes.
+/// Returns the answer to a request; `buf` has the bytes that came so far. Bytes after its head are refused with 400.
 ///
 /// Cost: linear in the bytes.
 pub fn answer_to(buf: &[u8]) -> Answer
@@ -108,7 +109,7 @@ fn answer_head(buf: &[u8], request: &RequestSpans, spans: &[HeaderSpan]) -> Answ
     }
 }
 
-/// Returns the answer to a head at the path of a session.
+/// Returns the answer to a request for a session's WebSocket: its upgrade, or 400 if that isn't valid.
 fn open_live(buf: &[u8], request: &RequestSpans, spans: &[HeaderSpan]) -> Answer
     requires within { IsRequestWithin buf.now spans.now request.now }
     ensures { Opens Answer.Live (requested_key (span_bytes buf.now request.now.method)
@@ -120,7 +121,7 @@ fn open_live(buf: &[u8], request: &RequestSpans, spans: &[HeaderSpan]) -> Answer
     }
 }
 
-/// Returns the answer to a head at the path of the news.
+/// Returns the answer to a request for a WebSocket that reports changes: its upgrade, or 400 if that isn't valid.
 fn open_news(buf: &[u8], request: &RequestSpans, spans: &[HeaderSpan]) -> Answer
     requires within { IsRequestWithin buf.now spans.now request.now }
     ensures { Opens Answer.News (requested_key (span_bytes buf.now request.now.method)
@@ -183,7 +184,7 @@ fn is_own_host(value: Option<&[u8]>) -> bool
     }
 }
 
-/// Returns whether the origin is that of the page at this host.
+/// Returns whether the origin is that of the page at this host: `http://` and the host.
 fn is_own_origin(origin: Option<&[u8]>, host: Option<&[u8]>) -> bool
     ensures { result ≡ is_own_origin (option_map (λ v. v.now) origin.entry) (option_map (λ v. v.now) host.entry) }
 {
@@ -193,7 +194,7 @@ fn is_own_origin(origin: Option<&[u8]>, host: Option<&[u8]>) -> bool
     }
 }
 
-/// Returns whether the text is these two, one after the other.
+/// Returns whether the text is `first` and then `second`.
 fn follows(text: &[u8], first: &[u8], second: &[u8]) -> bool
     ensures { result ≡ follows text.now first.now second.now }
 {
@@ -237,14 +238,15 @@ pub const HEAD_LIMIT: usize = 8192;
 
 /// Reads the head of a request, and returns the answer to it, which isn't `More`.
 ///
-/// Returns none if the reader fails or ends before, or when out of memory.
+/// A reader that times out is answered by `TooLate`, a head of more than [`HEAD_LIMIT`] bytes by `TooLarge`. Returns
+/// none if the reader fails otherwise or ends within the head, or when out of memory.
 ///
 /// Cost: a parse of the head for each read.
 pub fn read_head<S: Read>(alloc: Global, reader: &mut S) -> Option<Answer>
     ensures { IfSome result (AnswersReader (S.remaining reader.old) (S.remaining reader.new)) }
 {
     let mut head = Vec::new(alloc);
-    // each piece has a byte at least, so one more would be too long
+    // each piece has at least one byte, so these reads exceed the limit if the head goes on
     for _ in 0..=HEAD_LIMIT {
         match read_piece(reader, &mut head) {
             Ok(()) => {}
@@ -267,11 +269,11 @@ pub fn read_head<S: Read>(alloc: Global, reader: &mut S) -> Option<Answer>
 enum Unread {
     /// The reader ended or failed, or there was no memory.
     Gone,
-    /// The time is over.
+    /// The reader timed out.
     Late,
 }
 
-/// Appends the next piece of a head.
+/// Reads the next piece of a head, and appends it to `head`.
 fn read_piece<S: Read>(reader: &mut S, head: &mut Vec<u8>) -> Result<(), Unread>
     ensures { OnOk result ((bytes : List ℕ) × (head.new.items ≡ head.old.items ++ bytes)
         × Consumes (S.remaining reader.old) (S.remaining reader.new) bytes) }

@@ -2,8 +2,8 @@
 //!
 //! This crate knows no sheet.
 //!
-//! - [`greet`] answers a request of HTTP: by the page ([`PAGE`]), by the facts about the sheet ([`About`]), by a
-//!   refusal, or by opening a WebSocket.
+//! - [`greet`] answers a request of HTTP: it sends the page ([`PAGE`]), the facts about the sheet ([`About`]) or a
+//!   refusal, or opens a WebSocket.
 //! - [`MessageSource`] and [`MessageSink`] are the two sides of a session over a WebSocket.
 //! - [`NewsSocket`] is a second WebSocket of a page. It reports how many changes there are.
 //!
@@ -15,7 +15,7 @@
 //! reply, `rows 2` and the two lines after it, as one message. A message with a line feed in it is no line and ends the
 //! session.
 //!
-//! Cost: the bytes of the lines and replies.
+//! Cost: linear in the bytes of the lines and replies.
 #![tactic(auto)]
 
 mod greeting;

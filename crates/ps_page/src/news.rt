@@ -13,11 +13,11 @@ use std::io::{ErrorKind, Read, Write};
 use std::net::{Shutdown, TcpStream};
 use tungstenite::{CloseCode, Error, Message, NoMask, WebSocket};
 
-/// The most messages of a browser that are skipped at a time. A page sends none.
+/// The most messages of a browser that one call skips. A page sends none.
 const MOST_PASSED: usize = 1024;
 
-/// A WebSocket that reports changes to a browser. Nothing that the browser sends is carried out, and no call waits for
-/// the browser.
+/// A WebSocket that reports the number of changes to a browser. It ignores the browser's messages, and no call waits
+/// for the browser.
 #[derive(Drop)]
 pub struct NewsSocket {
     alloc: Global,
@@ -42,8 +42,9 @@ impl NewsSocket {
         self.socket.get_ref()
     }
 
-    /// Reports to the browser how many changes there are, if it doesn't know of as many. Fails if the browser
-    /// doesn't read what it is sent.
+    /// Sends the browser `version`, the number of changes, unless it was sent this number or a higher one before.
+    ///
+    /// Fails if the message can't be sent at once (the browser doesn't read, or has left), or when out of memory.
     pub fn tell(&mut self, version: u64) -> Result<(), Failed> {
         match self.told {
             Some(told) if version <= told => return Ok(()),
@@ -53,22 +54,22 @@ impl NewsSocket {
         say_version(self.alloc, &mut self.socket, version)
     }
 
-    /// Skips all that the browser has sent, and returns whether it is still there. Pings are answered. A browser that
-    /// sent 1,024 messages since the last call is taken for gone.
+    /// Skips all that the browser has sent, and returns whether it is still connected. Pings are answered. A browser
+    /// that sent 1,024 messages since the last call counts as gone.
     ///
-    /// Cost: linear in these bytes.
+    /// Cost: linear in the bytes that the browser has sent.
     pub fn is_there(&mut self) -> bool {
         pass_over(&mut self.socket)
     }
 
-    /// Closes the WebSocket, and tells the browser that there is no more news.
+    /// Closes the WebSocket, with the reason that the server ends, and shuts down the connection.
     pub fn leave(mut self) {
         close(&mut self.socket, CloseCode::Away, "the server ends");
         let _ = self.connection().shutdown(Shutdown::Both);
     }
 }
 
-/// Returns the message with the number of changes. Fails when out of memory.
+/// Returns the message with the number of changes, as `version 7`. Fails when out of memory.
 fn version_text(alloc: Global, version: u64) -> Result<Vec<u8>, AllocError>
     ensures { IfOk result (λ bytes. bytes.items ≡ version_text version) }
 {
@@ -79,7 +80,7 @@ fn version_text(alloc: Global, version: u64) -> Result<Vec<u8>, AllocError>
     Ok(bytes)
 }
 
-/// Reports to a browser how many changes there are, as one message.
+/// Sends a browser the number of changes, as one message. Fails if the message can't be sent, or when out of memory.
 ///
 /// Cost: the time that the browser takes.
 pub fn say_version<S: Read + Write + Drop>(
@@ -96,7 +97,7 @@ pub fn say_version<S: Read + Write + Drop>(
     say(alloc, socket, bytes.as_slice())
 }
 
-/// Skips all that a browser sent, and returns whether it may send more.
+/// Skips all that a browser sent, and returns whether its connection goes on.
 fn pass_over<S: Read + Write + Drop>(socket: &mut WebSocket<S, NoMask>) -> bool {
     for _ in 0..MOST_PASSED {
         match socket.read() {

@@ -1,4 +1,4 @@
-//! The responses that open no WebSocket.
+//! Writes the responses of HTTP that don't open a WebSocket.
 ghost use Rattle.std.specs.Prelude.{◌≡◌, ◌++◌, IfOk, OnOk};
 ghost use Rattle.std.specs.Io.KnownBytes.{Appends};
 ghost use Rattle.ps_page.specs.Messages.{about_lines, about_text};
@@ -11,7 +11,7 @@ use std::alloc::{AllocError, Global};
 use std::io;
 use std::io::Write;
 
-/// Writes the response with the page.
+/// Writes the response with the page: a constant head, which has the length of `PAGE`, and then `page`.
 ///
 /// Cost: linear in the bytes of the page.
 pub fn respond_page<W: Write>(writer: &mut W, page: &[u8]) -> io::Result<()>
@@ -22,24 +22,24 @@ pub fn respond_page<W: Write>(writer: &mut W, page: &[u8]) -> io::Result<()>
     writer.flush()
 }
 
-/// The head of the response with the facts about a sheet, up to their length.
+/// The head of the response to `/about`, up to the value of `content-length`, which is written after it.
 pub const ABOUT_HEAD: &[u8] = b"HTTP/1.1 200 OK\r\ncontent-type: text/plain; charset=utf-8\r\n\
     cache-control: no-store\r\nx-content-type-options: nosniff\r\nconnection: close\r\ncontent-length: ";
 
-/// The facts about a sheet that a page asks for.
+/// Facts about a sheet, which a page asks for at `/about`.
 #[derive(Clone, Copy, Debug)]
 pub struct About<'a> {
     /// The number of browsers that have a session.
     pub here: u64,
     /// The title, one line.
     pub title: &'a str,
-    /// Whether one more browser can follow the changes.
+    /// Whether one more browser may follow the changes over a WebSocket. The response to `/about` doesn't have it.
     pub has_room: bool,
 }
 
 impl About<'_> {
-    /// Returns the facts as text, a line each: how many browsers have a session, and the title. Fails when out of
-    /// memory.
+    /// Returns the body of the response to `/about`: a line with the number of browsers that have a session, and a line
+    /// with the title. Fails when out of memory.
     ///
     /// Cost: linear in the bytes of the title, and their memory.
     pub fn lines(self, alloc: Global) -> Result<Vec<u8>, AllocError>
@@ -55,9 +55,9 @@ impl About<'_> {
     }
 }
 
-/// Writes the response with the facts about a sheet.
+/// Writes the response to `/about`, with `lines` as its body.
 ///
-/// Cost: linear in the bytes of these lines.
+/// Cost: linear in the bytes of the lines.
 pub fn respond_about<W: Write>(writer: &mut W, lines: &[u8]) -> io::Result<()>
     ensures { OnOk result (Appends (W.contents writer.old) (W.contents writer.new) (about_text lines.now)) }
 {

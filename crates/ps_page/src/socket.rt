@@ -21,7 +21,7 @@ use tungstenite::{
     CloseCode, CloseFrame, Message, NoMask, Role, Utf8Bytes, WebSocket, WebSocketConfig,
 };
 
-/// The most bytes of one read.
+/// The most bytes of one read, and of a browser's message on a WebSocket whose messages are ignored.
 pub(crate) const PIECE_BYTES: usize = 4096;
 
 /// How long a WebSocket may be open before its first message begins, in seconds.
@@ -34,10 +34,12 @@ const SILENT_SECONDS: u64 = 300;
 const UNREAD_SECONDS: u64 = 10;
 
 /// The connection of a WebSocket. Its browser may be silent for longer once its first bytes were read.
+///
+/// Reads and writes fail once their time is over; see [`BrowserStream::new`].
 #[derive(Drop)]
 pub struct BrowserStream<'a> {
     stream: &'a TcpStream,
-    /// how long it may be silent
+    /// how long the browser may be silent after its first bytes
     idle: Duration,
     is_heard: bool,
 }
@@ -82,7 +84,7 @@ impl Write for BrowserStream<'_> {
     }
 }
 
-/// Returns the server's side of a WebSocket over this stream; a message has at most `limit` bytes.
+/// Returns the server's side of a WebSocket over this stream. Reading a message of more than `limit` bytes fails.
 pub(crate) fn socket_over<S: Read + Write + Drop>(
     alloc: Global,
     stream: S,
@@ -105,40 +107,41 @@ pub(crate) fn close<S: Read + Write + Drop>(
     let _ = socket.close(Some(CloseFrame { code, reason }));
 }
 
-/// Closes a WebSocket that was just opened, and tells its browser that there is no room for it.
+/// Closes a WebSocket that was just opened, with the code "try again later" (1013).
 pub fn turn_browser_away(alloc: Global, stream: &TcpStream) {
     let mut socket = socket_over(alloc, BrowserStream::new(stream, None), PIECE_BYTES);
     close(&mut socket, CloseCode::Again, "no room");
 }
 
-/// What a browser sent.
+/// The result of reading a browser's next message.
 #[derive(Clone, Copy, Debug, PartialEq, Eq)]
 pub enum Heard {
     /// One line.
     Line,
-    /// A ping, a pong or a close, which is nothing to a session.
+    /// A ping, a pong or a close, which a session ignores.
     Idle,
-    /// A message that isn't one line, or one that is out of memory.
+    /// A message that isn't one line, or a line that there was no memory for.
     NoLine,
-    /// Nothing more: the browser left, or its connection failed.
+    /// Nothing more: the browser left, its connection failed, or it sent a frame that isn't allowed or is too long.
     Left,
 }
 
-/// Returns whether a message is one line, neither empty nor divided.
+/// Returns whether a message is one line: it isn't empty, and has no line feed and no carriage return.
 fn is_line(line: &[u8]) -> bool
     ensures { result ≡ is_line line.now }
 {
     !line.is_empty() && is_undivided(line)
 }
 
-/// Returns whether no byte of a line ends one.
+/// Returns whether no byte is a line feed or a carriage return.
 fn is_undivided(line: &[u8]) -> bool
     ensures { result ≡ list_all (λ b. not (b == line_feed) && not (b == carriage_return)) line.now }
 {
     line.iter().all(|b| *b != b'\n' && *b != b'\r')
 }
 
-/// Reads the next message of a browser. If it is a line, it is put into `bytes`, with a line feed.
+/// Reads the next message of a browser. If the message is one line, `bytes` has that line afterwards, with a line feed,
+/// and nothing else.
 ///
 /// Cost: linear in the bytes of the message, and the time that the browser takes.
 pub fn hear<S: Read + Write + Drop>(socket: &mut WebSocket<S, NoMask>, bytes: &mut Vec<u8>) -> Heard
@@ -163,9 +166,10 @@ pub fn hear<S: Read + Write + Drop>(socket: &mut WebSocket<S, NoMask>, bytes: &m
     Heard::Line
 }
 
-/// Sends text to a browser, as one message.
+/// Sends text to a browser, as one message. Fails if `bytes` aren't UTF-8, if the connection fails, or when out of
+/// memory.
 ///
-/// Cost: linear in its bytes, with the memory for them, and the time that the browser takes.
+/// Cost: linear in the bytes, with the memory for them, and the time that the browser takes.
 pub fn say<S: Read + Write + Drop>(
     alloc: Global,
     socket: &mut WebSocket<S, NoMask>,
@@ -185,7 +189,7 @@ pub fn say<S: Read + Write + Drop>(
     }
 }
 
-/// A source of the lines that a browser sends as messages. It shows no bytes.
+/// A source of the lines that a browser sends as messages. Contracts don't see its bytes: `remaining` is none.
 #[derive(Drop)]
 pub struct MessageSource<S: Read + Write + Drop, L: Ledger> {
     socket: WebSocket<S, NoMask>,
@@ -200,7 +204,7 @@ pub struct MessageSource<S: Read + Write + Drop, L: Ledger> {
 }
 
 impl<S: Read + Write + Drop, L: Ledger> MessageSource<S, L> {
-    /// Creates a source over a stream that is a WebSocket by now; a message has at most `limit` bytes.
+    /// Creates a source over a stream whose WebSocket is open. A message of more than `limit` bytes ends the source.
     pub fn new(alloc: Global, stream: S, limit: usize, blank: Blank) -> MessageSource<S, L>
         requires { IsBlankOf blank L.name L.parts }
         ensures { ⟦<MessageSource<S, L> as Source>⟧.failures result ≡ 0 }
@@ -214,7 +218,7 @@ impl<S: Read + Write + Drop, L: Ledger> MessageSource<S, L> {
         }
     }
 
-    /// Copies the next bytes of the line, as many as fit.
+    /// Copies the next bytes of the line to `piece`, as many as fit, and returns how many.
     fn give(&mut self, piece: &mut [u8]) -> usize
         ensures count { result ≡ min (vec_len self.old.line - self.old.given) (length piece.old) }
         ensures bytes { take result piece.new ≡ take result (drop self.old.given self.old.line.items) }
@@ -260,7 +264,7 @@ impl<S: Read + Write + Drop, L: Ledger> Source for MessageSource<S, L> {
     }
 }
 
-/// A sink that sends each piece as a message to a browser. It shows no bytes.
+/// A sink that sends each piece as one message to a browser. Contracts don't see its bytes: `contents` is none.
 #[derive(Drop)]
 pub struct MessageSink<S: Read + Write + Drop, L: Ledger> {
     alloc: Global,
@@ -269,7 +273,7 @@ pub struct MessageSink<S: Read + Write + Drop, L: Ledger> {
 }
 
 impl<S: Read + Write + Drop, L: Ledger> MessageSink<S, L> {
-    /// Creates a sink over a stream that is a WebSocket by now.
+    /// Creates a sink over a stream whose WebSocket is open.
     pub fn new(alloc: Global, stream: S, blank: Blank) -> MessageSink<S, L>
         requires { IsBlankOf blank L.name L.parts }
         ensures { ⟦<MessageSink<S, L> as Sink>⟧.failures result ≡ 0 }

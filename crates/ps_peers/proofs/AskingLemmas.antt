@@ -40,7 +40,7 @@ puts_after old mid new first second sent some = (
   rw take-append-add (Appends-append old mid new _ _ sent some.2),
 )
 
--- .. and then handed on
+-- .. and then the sink was flushed
 pub puts_kept : (old mid new : Option (List ℕ)) (bytes : List ℕ) → PutsSome old mid bytes → Keeps mid new
     → PutsSome old new bytes
 puts_kept old mid new bytes some keeps = (some.0, some.1, Appends-kept old mid new _ some.2 keeps)
@@ -49,7 +49,7 @@ puts_kept old mid new bytes some keeps = (some.0, some.1, Appends-kept old mid n
 pub puts_none : (old : Option (List ℕ)) (bytes : List ℕ) → PutsSome old old bytes
 puts_none old bytes = (0, omega arith, Appends-nil old)
 
--- what a call that hands on came to
+-- the outcome of a call that flushes
 pub handed_or_failed : (E P Q : Type 0) (result : Result (Unit {0}) E) → OnOk result P → OnErr result Q → P ⊎ Q
 handed_or_failed E P Q (Ok done) p q = inl p
 handed_or_failed E P Q (Err error) p q = inr q
@@ -147,7 +147,7 @@ module _ (lines : List (List ℕ)) (old mid written before : Option (List ℕ))
         (Appends-append _ _ _ (written_text lines) (written_text others) h.sent o.sent);
   }
 
-  -- .. and then all was handed on
+  -- .. and then all was flushed
   pub hands_kept : (contents : Option (List ℕ)) → Keeps before contents → HandsLines lines old mid written contents
   hands_kept contents keeps = record {
     each = h.each;
@@ -195,14 +195,14 @@ module _ (line : List ℕ) (old mid : PeerView) (written before : Option (List �
         Appends-kept _ _ _ _ all.sent keeps,
       )
 
-  -- .. of which some came
+  -- .. or only some of the others
   pub reply_some : (new contents after : Option (List ℕ)) → HandsSome mid.to_come new before contents
       → Keeps contents after → HandsSome old.to_come new written after
   reply_some new contents after some keeps =
       some_kept _ _ _ contents after
       (hands_more (mid.line ∷ []) old.to_come mid.to_come written before first_hands new contents some) keeps
 
-  -- .. of which all came, and some of it wasn't handed on
+  -- .. or all others, and the flush failed
   pub reply_unflushed : (rest : List (List ℕ)) (new contents after : Option (List ℕ))
       → HandsLines rest mid.to_come new before contents → Keeps contents after
       → HandsSome old.to_come new written after

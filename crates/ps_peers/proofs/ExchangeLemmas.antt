@@ -1,4 +1,4 @@
--- One reply more of what is followed, and its end.
+-- One more reply of a peer that is followed, and its end.
 use Rattle.std.proofs.Common.{◌≡◌, ℕ, List, [], ◌∷◌, ◌++◌, Option, ◌∙◌, arith, inl, inr, refl}
 use Rattle.std.proofs.Common.{subst}
 use Rattle.std.specs.Io.KnownBytes.{Appends, Consumes}
@@ -29,7 +29,7 @@ replied_takes request old new r =
 
 module _ (waits : Type 0) (start : ℕ) (first mid last : PeerView) (written before contents : Option (List ℕ))
     (version : ℕ) (f : IsFollowed waits start first mid written before version) where
-  -- one reply more, which was handed on
+  -- one more reply, whose text was written
   pub followed_more : (text : List ℕ) (next : ℕ) → IsReplied (pull_text version) mid last
       → HandsOver version last.line text next → Appends before contents text
       → IsFollowed waits start first last written contents next
@@ -48,14 +48,14 @@ module _ (waits : Type 0) (start : ℕ) (first mid last : PeerView) (written bef
     sent = Appends-append _ _ _ f.text text f.sent sent;
   }
 
-  -- the end is handed on as nothing
+  -- for the end no text is written
   pub followed_end : IsReplied (pull_text version) mid last → TellsEnd (without_return last.line) version
       → before ≡ contents → IsFollowed waits start first last written contents version
   followed_end r ended same =
       followed_more [] version r (inr (ended, refl, refl)) (subst (λ known. Appends before known []) same
       (Appends-nil before))
 
-  -- the reply to a wait is handed on as nothing
+  -- for the reply to a wait no text is written
   pub followed_wait : waits → IsReplied (wait_text version) mid last → TellsNews version (without_return last.line)
       → IsFollowed waits start first last written before version
   followed_wait may r news = record {
@@ -74,7 +74,7 @@ module _ (waits : Type 0) (start : ℕ) (first mid last : PeerView) (written bef
     sent = Appends-append _ _ _ f.text [] f.sent (Appends-nil before);
   }
 
-  -- what came then was not handed on
+  -- what came then wasn't written
   pub halted_before : (failed : Type 0) → before ≡ contents → TakesLine mid.to_come last.to_come
       → IsHalted waits failed start first last written contents
   halted_before failed same taken = record {
@@ -86,7 +86,7 @@ module _ (waits : Type 0) (start : ℕ) (first mid last : PeerView) (written bef
     handed = inl same;
   }
 
-  -- .. or was cut
+  -- .. or was written in part
   pub halted_cut : (failed : Type 0) (text : List ℕ) (next : ℕ) → failed → IsReplied (pull_text version) mid last
       → HandsOver version last.line text next
       → PutsSome before contents text → IsHalted waits failed start first last written contents

@@ -1,4 +1,4 @@
--- A conversation with a peer: the lines of an input, each asked in its turn, and the replies as they are written.
+-- A conversation with a peer: the lines of an input, each sent in its turn, and the replies as they are written.
 use Rattle.std.specs.Prelude.{◌≡◌, ◌⊎◌, ℕ, Bool, cond, ◌||◌, List, [], ◌∷◌, ◌++◌, Option, Some, None, codes, bytes_eq}
 use Rattle.std.specs.Prelude.{drop, flat_map, length, nat_eq, nat_lt, option_map, take}
 use Rattle.std.specs.Io.KnownBytes.{Appends, Consumes, IsAtEnd}
@@ -18,17 +18,17 @@ use Rattle.ps_lines.specs.declared.verb.Verb.TheVariants as verbs
 abbrev pub ended : List ℕ → List ℕ
 ended line = line ++ 10 ∷ []
 
--- the number after a word at the front of a line
+-- the number after a word at the front of a line, if it is that word and a number
 abbrev pub number_after : List ℕ → List ℕ → Option ℕ
 number_after first word =
     cond (nat_lt (length first) (length word)) None
     (cond (bytes_eq (take (length word) first) word) (whole_number (drop (length word) first)) None)
 
--- no line follows, where this holds
+-- no line follows if this holds; else the reply isn't due
 abbrev pub none_more : Bool → Option ℕ
 none_more due = cond due (Some 0) None
 
--- how many lines follow the first line of a reply to a line of this verb, where it is one
+-- how many lines follow the first line of a reply to a line of this verb; none if it isn't such a reply
 abbrev pub lines_after : Option Verb → List ℕ → Option ℕ
 lines_after None first = None
 lines_after (Some verbs.Get) first = none_more (starts_with nat_eq first (codes "val "))
@@ -49,12 +49,12 @@ lines_after (Some verbs.Merge) first =
     option_or (option_map (λ n. 0) (number_after first (codes "ok ")))
     (option_map (λ n. 0) (number_after first (codes "same ")))
 
--- what a server says that has no seat for a session: it closes then
+-- the reply of a server without a free session slot; it then closes the connection
 abbrev pub no_seat : List ℕ
 no_seat = codes "err 21 seat"
 
--- how many lines follow the first line of the reply to a line; none where it isn't due. A refusal is due to each line,
--- except to the one that ends the session
+-- how many lines follow the first line of the reply to a line; none if it isn't due. Each refusal is due to each line,
+-- except for the refusal `no_seat`
 abbrev pub lines_due : List ℕ → List ℕ → Option ℕ
 lines_due line first =
     cond (bytes_eq first no_seat) None
@@ -64,7 +64,7 @@ lines_due line first =
 abbrev pub written_text : List (List ℕ) → List ℕ
 written_text lines = flat_map (λ line. ended (without_return line)) lines
 
--- ASKED: the line was put to the peer, once, and then its whole reply was read, which is due and has this text
+-- ASKED: the line was sent to the peer, once, and then its whole reply was read. The reply is due, and has this text
 pub record Asked (old : PeerView) (line text : List ℕ) (new : PeerView) : Type 0 where
   pub first : List ℕ
   pub rest : List (List ℕ)
@@ -74,11 +74,12 @@ pub record Asked (old : PeerView) (line text : List ℕ) (new : PeerView) : Type
   pub due : lines_due line (without_return first) ≡ Some (length rest)
   pub is : text ≡ written_text (first ∷ rest)
 
--- .. of a line as it stands between line feeds: an empty one isn't asked, and one that is too long is refused unasked
+-- .. for a line as it stands between line feeds: an empty one isn't sent, and one that is too long is refused and not
+-- sent
 abbrev pub AsksLine : Answering PeerView
 AsksLine = Lines Asked
 
--- these lines were asked, one after another, and what was written are the replies
+-- lines were sent, one after another, and their replies were written
 pub record IsAsking (first last : PeerView) (written contents given left : Option (List ℕ)) : Type 0 where
   pub lines : List (List ℕ)
   pub text : List ℕ
@@ -87,7 +88,7 @@ pub record IsAsking (first last : PeerView) (written contents given left : Optio
   pub run : Run AsksLine first lines text last
   pub sent : Appends written contents text
 
--- CONVERSED: all lines of the input were asked, also a last one without a line feed
+-- CONVERSED: all lines of the input were sent, also a last one without a line feed
 pub record IsConversed (first last : PeerView) (written contents given left : Option (List ℕ)) : Type 0 where
   pub lines : List (List ℕ)
   pub rest : List ℕ
@@ -105,7 +106,7 @@ pub record HandsLines (lines : List (List ℕ)) (old new written contents : Opti
   pub read : Consumes old new (stream_of lines [])
   pub sent : Appends written contents (written_text lines)
 
--- .. and then at most one line more, and a beginning of them was written
+-- some lines came, and then at most one line more; a beginning of the text of the first ones was written
 pub record HandsSome (old new written contents : Option (List ℕ)) : Type 0 where
   pub came : List (List ℕ)
   pub each : All HasNoFeed came
@@ -114,14 +115,14 @@ pub record HandsSome (old new written contents : Option (List ℕ)) : Type 0 whe
   pub more : TakesLine later new
   pub handed : PutsSome written contents (written_text came)
 
--- BROKEN OFF: of a line a beginning was put, and of the lines that came then a beginning was written; or the line is
+-- BROKEN OFF: a beginning of the line was sent, and a beginning of the lines that came then was written. Or the line is
 -- too long, and a beginning of its refusal was written
 abbrev pub IsBrokenOff : List ℕ → PeerView → PeerView → Option (List ℕ) → Option (List ℕ) → Type 0
 IsBrokenOff raw old new written contents =
     (PutsSome old.asked new.asked (ended (without_return raw)) × HandsSome old.to_come new.to_come written contents)
     ⊎ ((kept raw ≡ None) × (new ≡ old) × PutsSome written contents (refusal_text refusals.Line))
 
--- .. amid a conversation: all lines before it were answered, and of the input no more was taken than this line
+-- .. in a conversation: all lines before it were answered, and no more of the input was read than this line
 pub record IsInterrupted (first last : PeerView) (written contents given left : Option (List ℕ)) : Type 0 where
   pub middle : PeerView
   pub before : Option (List ℕ)

@@ -1,5 +1,5 @@
--- What one replica hands to another, or to whoever reads on: the peer's replies to one request after the other, and
--- the lines that are written of them.
+-- What a client pulls from one peer, and writes or pushes to another: the replies to one request after the other, and
+-- the text that is made of them.
 use Rattle.std.specs.Prelude.{◌≡◌, ◌⊎◌, ◌<◌, ◌≤◌, ⊤, ℕ, List, [], ◌∷◌, ◌++◌, Option, Some, codes, decimal}
 use Rattle.std.specs.Prelude.{Bool, false, true, drop, length, string_bytes}
 use Rattle.std.specs.Io.KnownBytes.{Appends, Consumes}
@@ -17,15 +17,15 @@ use Rattle.ps_lines.specs.Streams.{Answering, Run, TakesLine, stream_of}
 use Rattle.ps_lines.specs.PushLine.{push_text}
 use Rattle.ps_lines.specs.Words.{whole_number}
 
--- what asks for the deltas after a version, at most so many at once
+-- the request for at most `most` deltas after a version
 abbrev pub pull_most : ℕ → ℕ → List ℕ
 pull_most version most = codes "pull " ++ decimal version ++ (codes " " ++ decimal most) ++ 10 ∷ []
 
--- .. as many at once as a reply may join
+-- .. for as many deltas as a reply may join
 abbrev pub pull_text : ℕ → List ℕ
 pull_text version = pull_most version LARGEST_GROUP
 
--- what asks to be told of more changes than these
+-- the request for a reply once there are more than `version` changes
 abbrev pub wait_text : ℕ → List ℕ
 wait_text version = codes "wait " ++ decimal version ++ 10 ∷ []
 
@@ -53,7 +53,7 @@ TellsDone reply = (version : ℕ) × TellsNumber (codes "ok ") reply version
 abbrev pub TellsNews : ℕ → List ℕ → Type 0
 TellsNews version reply = (number : ℕ) × TellsNumber (codes "version ") reply number × (version ≤ number)
 
--- what a reply tells
+-- what a reply says
 abbrev pub IsTold : List ℕ → PeerReply → Type 0
 IsTold reply replies.Taken = TellsDone reply
 IsTold reply (replies.Delta last delta) = TellsDelta reply last delta.now
@@ -61,59 +61,60 @@ IsTold reply (replies.End version) = TellsEnd reply version
 IsTold reply (replies.Version number) = TellsNumber (codes "version ") reply number
 IsTold reply (replies.Refused text) = text.now ≡ reply
 
--- a fault that is a peer's own has this line
+-- if the fault is `PeerRefused`, its text is this line
 abbrev pub IsOwn : SyncFault → List ℕ → Type 0
 IsOwn (PeerRefused text) line = string_bytes text ≡ line
 IsOwn (Refused refusal) line = ⊤
 IsOwn Closed line = ⊤
 
--- GROUP: a delta line came that is due to a pull after `version`
+-- GROUP: the reply is a delta line whose version is greater than `version`, that of the pull
 abbrev pub IsGroup : ℕ → List ℕ → ℕ → List ℕ → Type 0
 IsGroup version reply last delta = TellsDelta reply last delta × (version < last)
 
--- what a reply to a pull after `version` hands out: of a group, where its line begins
+-- what a reply to a pull after `version` returns; `start` is where in the reply the line of a group begins
 abbrev pub IsDue : ℕ → List ℕ → Due → Type 0
 IsDue version reply (dues.Group last start) = IsGroup version reply last (drop start reply) × (start ≤ length reply)
 IsDue version reply dues.End = TellsEnd reply version
 IsDue version reply dues.Closed = ⊥
 
--- what a pull after `version` of at most so many came to: a reply that is due, or the peer closed instead of one
+-- the outcome of a pull of at most `most` deltas after `version`: a reply that is due, or the peer closed instead of
+-- replying
 abbrev pub IsNext : ℕ → ℕ → PeerView → PeerView → Due → Type 0
 IsNext version most old new dues.Closed = IsClosed (pull_most version most) old new
 IsNext version most old new due =
     IsReplied (pull_most version most) old new × IsDue version (without_return new.line) due
 
--- what a wait for more than `version` changes came to: it ended, or the peer closed instead of a reply
+-- the outcome of a wait for more than `version` changes: it ended, or the peer closed instead of replying
 abbrev pub IsAwaited : ℕ → PeerView → PeerView → Bool → Type 0
 IsAwaited version old new true =
     IsReplied (wait_text version) old new × TellsNews version (without_return new.line)
 IsAwaited version old new false = IsClosed (wait_text version) old new
 
--- what is written of a line that replies to a pull after `version`, and the version to ask after next
+-- the text written for a line that replies to a pull after `version`, and the version of the next pull
 abbrev pub HandsOver : Answering ℕ
 HandsOver version line text next =
     ((delta : List ℕ) × IsGroup version (without_return line) next delta × (text ≡ push_text delta))
     ⊎ (TellsEnd (without_return line) version × (text ≡ []) × (next ≡ version))
 
--- what a line that replies to a wait writes: nothing
+-- for a line that replies to a wait no text is written, and the version stays
 abbrev pub HandsNothing : Answering ℕ
 HandsNothing version line text next =
     TellsNews version (without_return line) × (text ≡ []) × (next ≡ version)
 
--- what is written of a line that replies to a pull, or to a wait where there are `waits`
+-- the text written for a line that replies to a pull, or, if there are `waits`, to a wait
 abbrev pub HandsOn : Type 0 → Answering ℕ
 HandsOn waits version line text next =
     HandsOver version line text next ⊎ (waits × HandsNothing version line text next)
 
--- .. and what it replies to
+-- .. and the request that the line replies to
 abbrev pub Asks : Type 0 → Answering ℕ
 Asks waits version line text next =
     ((text ≡ pull_text version) × ((handed : List ℕ) × HandsOver version line handed next))
     ⊎ (waits × (text ≡ wait_text version) × ((handed : List ℕ) × HandsNothing version line handed next))
 
 -- FOLLOWED: the peer replied to one pull after the other, the first after the version `start`, each further one after
--- the version of the reply before, and where there are `waits` to waits between them; and what was written is just what
--- the replies make, in order, each once
+-- the version of the reply before. If there are `waits`, there may be waits between them. What was written is exactly
+-- the text made of the replies, in order, each once
 pub record IsFollowed (waits : Type 0) (start : ℕ) (first last : PeerView) (written contents : Option (List ℕ))
     (version : ℕ) : Type 0 where
   pub replies : List (List ℕ)
@@ -141,7 +142,7 @@ pub record IsUntilClosed (waits : Type 0) (start : ℕ) (first last : PeerView) 
   pub followed : IsFollowed waits start first middle written contents version
   pub closed : IsClosed (pull_text version) middle last ⊎ (waits × IsClosed (wait_text version) middle last)
 
--- a line that was due was read, and what is written of it was cut
+-- a line that was due was read, and only a beginning of its text was written
 pub record IsCut (middle last : PeerView) (version : ℕ) (before contents : Option (List ℕ)) : Type 0 where
   pub one : HasNoFeed last.line
   pub read : Consumes middle.to_come last.to_come (last.line ++ 10 ∷ [])
@@ -150,8 +151,8 @@ pub record IsCut (middle last : PeerView) (version : ℕ) (before contents : Opt
   pub hands : HandsOver version last.line text next
   pub sent : PutsSome before contents text
 
--- HALTED: it was followed up to some reply. Of what came then no more than a line was read, and none of it was handed
--- on, or, where that `failed`, a beginning
+-- HALTED: the peer was followed up to some reply. Then at most one line was read, and none of its text was written. If
+-- the writing `failed`, a beginning of it may have been
 pub record IsHalted (waits failed : Type 0) (start : ℕ) (first last : PeerView) (written contents : Option (List ℕ))
     : Type 0 where
   pub middle : PeerView

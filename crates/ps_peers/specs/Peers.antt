@@ -1,19 +1,20 @@
--- A peer that replies to each request by a line.
+-- A peer that replies to each request by a line, or by several.
 use Rattle.std.specs.Prelude.{◌≡◌, ◌<◌, ◌≤◌, ℕ, List, [], ◌∷◌, ◌++◌, Option, length, take}
 use Rattle.std.specs.Io.KnownBytes.{Appends, Consumes, IsAtEnd}
 use Rattle.ps_lines.specs.Feeding.{HasNoFeed}
 
 -- what contracts see of a peer
 pub record PeerView : Type 0 where
-  -- the bytes that it has still to give, where its source shows them: those that were read already, then the source's
+  -- the bytes of replies that are still to be read, if its source shows them: those that were taken from the source
+  -- already, then the source's
   pub to_come : Option (List ℕ)
-  -- the requests that were put to it so far, where its sink shows them
+  -- the requests that were sent to it so far, if its sink shows them
   pub asked : Option (List ℕ)
   -- the line that was read last, with the carriage return that may be at its end
   pub line : List ℕ
   -- how many calls of its source and its sink failed so far
   pub failures : ℕ
-  -- at most how many more replies it has
+  -- a bound on how many more lines it has
   pub left : ℕ
 
 -- REPLIED: these bytes were put whole, and then one line was read, which is the reply

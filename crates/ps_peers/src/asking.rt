@@ -1,4 +1,4 @@
-//! The lines of an input, sent to a peer, and its replies, written.
+//! Sends a peer the lines of an input, and writes its replies.
 ghost use Rattle.std.specs.Prelude.{◌≡◌, ◌≢◌, ◌⊎◌, ◌<◌, ◌≤◌, ℕ, List, [], Option, Some, None, Err, IfErr, IfOk, OnErr};
 ghost use Rattle.std.specs.Prelude.{OnOk, length, option_map, nat_eq};
 ghost use Rattle.std.specs.List.{starts_with};
@@ -25,10 +25,11 @@ use ps_lines::{
 };
 use std::alloc::{AllocError, Global};
 
-/// What a server without a free slot replies before it closes.
+/// The reply of a server without a free session slot. It then closes the connection.
 const NO_SEAT: &str = "err 21 seat";
 
-/// Returns the number after a word at the front of a line; none for another word, or no such number.
+/// Returns the number that follows `word` in a line. Returns `None` if the line doesn't begin with `word`, or if its
+/// rest isn't a number. `word` includes the space before the number.
 ///
 /// Cost: linear in the line's bytes.
 pub fn number_after(first: &[u8], word: &[u8]) -> Option<u64>
@@ -45,14 +46,14 @@ pub fn number_after(first: &[u8], word: &[u8]) -> Option<u64>
     }
 }
 
-/// That no line follows, where this holds.
+/// Returns 0, the number of further lines of the reply, if `due` holds. Else returns `None`.
 fn none_more(due: bool) -> Option<u64>
     ensures { result ≡ none_more due }
 {
     if due { Some(0) } else { None }
 }
 
-/// That no line follows a first line with this word and a number.
+/// Returns 0, the number of further lines of the reply, if `first` is `word` and a number. Else returns `None`.
 fn numbered(first: &[u8], word: &[u8]) -> Option<u64>
     ensures { result ≡ option_map (λ n. 0) (number_after first.now word.now) }
 {
@@ -62,7 +63,8 @@ fn numbered(first: &[u8], word: &[u8]) -> Option<u64>
     }
 }
 
-/// How many lines follow the first line of a reply to a line of this verb; none where it is no such reply.
+/// Returns how many lines follow the first line of a reply to a line with this verb. Returns `None` if `first` can't
+/// begin such a reply.
 pub(crate) fn lines_after(verb: Option<Verb>, first: &[u8]) -> Option<u64>
     ensures { result ≡ lines_after verb first.now }
 {
@@ -81,7 +83,8 @@ pub(crate) fn lines_after(verb: Option<Verb>, first: &[u8]) -> Option<u64>
     }
 }
 
-/// How many lines follow the first line of the reply to a line; none where it isn't due.
+/// Returns how many lines follow the first line of the reply to `line`. Returns `None` if `first` can't begin it. An
+/// `err` may be the reply to any line, except for the one that says that no session slot is free.
 fn lines_due(line: &[u8], first: &[u8]) -> Option<u64>
     ensures { result ≡ lines_due line.now first.now }
 {
@@ -95,7 +98,8 @@ fn lines_due(line: &[u8], first: &[u8]) -> Option<u64>
     lines_after(Verb::read(word), first)
 }
 
-/// The fault of a peer whose reply begins with a line that isn't due: its own where it has no seat.
+/// Returns the fault for a reply that can't be one to its line: `PeerRefused` if the peer has no free session slot,
+/// else `Line`.
 fn undue(alloc: Global, first: &[u8]) -> SyncFault
     ensures device { result ≢ Refused Refusal.Device }
     ensures own { IsOwn result first.now }
@@ -107,7 +111,7 @@ fn undue(alloc: Global, first: &[u8]) -> SyncFault
     }
 }
 
-/// Returns the outcome of a line whose reply begins so, for the observer.
+/// Returns the outcome, for the watcher, of a line whose reply begins with `first`.
 fn outcome_of(first: &[u8]) -> Outcome {
     match refusal_of(first) {
         Some(refusal) => Outcome::Refused(refusal),
@@ -115,7 +119,7 @@ fn outcome_of(first: &[u8]) -> Outcome {
     }
 }
 
-/// The refusal that a reply tells, if it tells one.
+/// Returns the refusal whose number stands in an `err` reply. Returns `None` for another reply or number.
 fn refusal_of(first: &[u8]) -> Option<Refusal> {
     let (digits, _) = split_word(first.strip_prefix(ERR)?);
     match read_whole(digits)? {
@@ -144,7 +148,7 @@ fn refusal_of(first: &[u8]) -> Option<Refusal> {
     }
 }
 
-/// Writes a line and its line feed, which may wait.
+/// Writes a line and a line feed. The output may hold them back until it is flushed.
 fn put_line<O: Sink>(line: &[u8], out: &mut O) -> Result<(), Failed>
     ensures sent { OnOk result (Appends (O.contents out.old) (O.contents out.new) (ended line.now)) }
     ensures put { PutsSome (O.contents out.old) (O.contents out.new) (ended line.now) }
@@ -155,7 +159,7 @@ fn put_line<O: Sink>(line: &[u8], out: &mut O) -> Result<(), Failed>
     send_pieces(pieces.as_slice(), out)
 }
 
-/// Reads so many further lines of a reply, and writes each, which may wait.
+/// Reads `count` further lines of a reply, and writes each. The output may hold them back until it is flushed.
 fn put_rest<S: Source + Drop, K: Sink + Drop, O: Sink>(
     count: u64,
     peer: &mut Peer<S, K>,
@@ -185,7 +189,7 @@ fn put_rest<S: Source + Drop, K: Sink + Drop, O: Sink>(
     Ok(())
 }
 
-/// How many lines follow the first line of the reply to a line. Refused where it isn't due.
+/// Returns how many lines follow the first line of the reply to `line`, or the fault if `first` can't begin it.
 fn count_due(alloc: Global, line: &[u8], first: &[u8]) -> Result<u64, SyncFault>
     ensures due { IfOk result (λ count. lines_due line.now first.now ≡ Some count) }
     ensures undue { OnErr result (lines_due line.now first.now ≡ None) }
@@ -198,7 +202,7 @@ fn count_due(alloc: Global, line: &[u8], first: &[u8]) -> Result<u64, SyncFault>
     }
 }
 
-/// Sends a peer a line, and writes the whole reply to it, flushed.
+/// Sends a peer a line, and writes the whole reply, flushed.
 fn ask_line<S: Source + Drop, K: Sink + Drop, O: Sink, W: Watcher>(
     alloc: Global,
     line: &[u8],
@@ -233,7 +237,7 @@ fn ask_line<S: Source + Drop, K: Sink + Drop, O: Sink, W: Watcher>(
         Err(_) => return Err(SyncFault::Refused(Refusal::Device)),
     }
     let rest = put_rest(count, peer, out);
-    // what came of a reply that breaks off is sent, too
+    // a part of a reply that breaks off is flushed, too
     let flushed = hand_on(out);
     match rest {
         Ok(()) => {}
@@ -245,7 +249,7 @@ fn ask_line<S: Source + Drop, K: Sink + Drop, O: Sink, W: Watcher>(
     }
 }
 
-/// Refuses a line that is too long, as a session does. Nothing of it is sent.
+/// Writes the refusal of a line that is too long, as a session does. Sends the peer none of the line.
 fn refuse_line<O: Sink, W: Watcher>(out: &mut O, watcher: &mut W) -> Result<(), Failed>
     ensures sent { OnOk result (Appends (O.contents out.old) (O.contents out.new) (refusal_text Refusal.Line)) }
     ensures put { PutsSome (O.contents out.old) (O.contents out.new) (refusal_text Refusal.Line) }
@@ -259,8 +263,8 @@ fn refuse_line<O: Sink, W: Watcher>(out: &mut O, watcher: &mut W) -> Result<(), 
     Ok(())
 }
 
-/// Asks a peer what ended in an input, and writes the reply to it: a line, which is `text` then, or one that is too
-/// long. An empty line has no reply, and isn't asked.
+/// Sends a peer the line that ended in the input, and writes the reply. The line is `text` if `line` is `Full`. An
+/// empty line isn't sent. A line that is too long is refused here.
 fn answer<S: Source + Drop, K: Sink + Drop, O: Sink, W: Watcher>(
     alloc: Global,
     line: Line,
@@ -295,19 +299,23 @@ fn answer<S: Source + Drop, K: Sink + Drop, O: Sink, W: Watcher>(
     }
 }
 
-/// Sends a peer each line of an input, to its end, and writes the replies. Each is whole and flushed before the next
-/// line is read. An empty line isn't sent, and one that is too long is refused here, as a session does. A last line
-/// needs no line feed.
+/// Sends a peer each line of `input`, to its end, and writes the replies to `out`. Each reply is written whole and
+/// flushed before the next line is sent. A last line needs no line feed.
 ///
-/// A refusal that is the reply to a line ends nothing. What was sent stays sent, and what was written stays written.
+/// An empty line isn't sent. A line that is too long is refused here, with the reply that a session would give.
+///
+/// An `err` in reply to a line doesn't end the exchange. After a fault, what was sent stays sent, and what was written
+/// stays written.
 ///
 /// # Errors
 ///
 /// - `Device`: the input, the connection or `out` failed.
-/// - `Line`: a reply isn't due to its line, or the peer closed before its end.
-/// - `PeerRefused`: the peer has no free slot.
+/// - `Line`: a reply doesn't fit its line, or it broke off.
+/// - `Memory`: allocation failed.
+/// - `PeerRefused`: the peer has no free session slot.
+/// - `Closed`: the peer closed the connection instead of replying to a line.
 ///
-/// Cost: linear in the bytes of the lines and of the replies, and 0.4 MB of memory.
+/// Cost: linear in the bytes of the lines and of the replies, and 0.33 MB of memory.
 pub fn ask_lines<I: Source + Drop, S: Source + Drop, K: Sink + Drop, O: Sink, W: Watcher>(
     alloc: Global,
     input: I,

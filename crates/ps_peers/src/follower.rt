@@ -1,4 +1,4 @@
-//! What a peer has and gets, written line by line.
+//! Writes all changes that a peer has, and then each one that it gets.
 ghost use Rattle.std.specs.Prelude.{◌≡◌, ◌⊎◌, ◌<◌, [], Err, IfErr, OnErr, OnOk, false, true};
 ghost use Rattle.std.specs.Io.KnownBytes.{Appends};
 ghost use Rattle.ps_grid.specs.declared.refusal.Refusal.TheVariants as Refusal;
@@ -27,17 +27,21 @@ fn write_push<O: Sink>(delta: &[u8], out: &mut O) -> Result<(), Failed>
     send_whole(line.as_slice(), out)
 }
 
-/// Pulls all that a peer has after its first `after` changes, and then each change that it gets, and writes each group
-/// as a change line. Each line is flushed before the next pull. A peer that has no more is asked to reply once it has.
+/// Writes all changes of a peer after its first `after` ones, and then each change that the peer gets. It pulls them in
+/// groups, and writes each group as a change line (`push` and the deltas).
 ///
-/// `until_now` ends it at the peer's end; a peer that closes before that is refused as `Line`, since not all was
-/// written. Otherwise it ends when the peer closes after a reply. What was written before stays written.
+/// It flushes each line before the next pull. When the peer has no more changes, it sends a `wait`, which the peer
+/// answers once it has more.
+///
+/// With `until_now` it returns at the peer's first `end`. Without, it returns when the peer closes the connection
+/// between two replies. What was written before a fault stays written.
 ///
 /// # Errors
 ///
-/// - `Device`: a connection or `out` failed.
-/// - `Line`: a reply isn't due to its request.
-/// - `PeerRefused`: the peer replied `err`, as one does that has fewer than `after` changes.
+/// - `Device`: the connection or `out` failed.
+/// - `Line`: a reply doesn't fit its request, or it broke off. With `until_now` also: the peer closed before its `end`.
+/// - `Memory`: allocation failed.
+/// - `PeerRefused`: the peer replied `err`, as it does if it has fewer than `after` changes.
 ///
 /// Cost: linear in the bytes of the lines, besides the wait for the peer.
 pub fn follow<S: Source + Drop, K: Sink + Drop, O: Sink>(

@@ -1,22 +1,22 @@
 //! A client of the line protocol.
 //!
-//! A request to a [`Peer`] is a line, and so is its reply.
+//! A request to a [`Peer`] is one line. A reply is one line or several.
 //!
 //! - [`sync`] pulls all that one peer has and pushes it to another.
-//! - [`follow`] writes what a peer has and gets, line by line.
+//! - [`follow`] writes all changes that a peer has, and then each one that it gets.
 //! - [`ask_lines`] sends a peer the lines of an input.
 //!
-//! It knows no sheet, and opens no connection: a peer is a source and a sink. It reads no more of a delta than where
-//! its line begins.
+//! This crate knows no sheet, and opens no connection: a peer is a source of bytes and a sink. It doesn't decode
+//! deltas. It only finds where in a reply a delta's line begins.
 //!
-//! The contracts to use are those of [`sync`] and [`follow`]. They write the groups that the peer replied, in order and
-//! each once, each due to the pull before it. That goes up to the peer's end (`IsAll`, in `specs/Exchange.antt`), or up
-//! to where it was halted (`IsHalted`).
+//! The contracts to use are those of [`sync`] and [`follow`]. Both write the groups of deltas that the peer returned,
+//! in order and each once, and each group answers the pull before it. They do so up to the peer's `end` (`IsAll`, in
+//! `specs/Exchange.antt`), or up to a fault (`IsHalted`).
 //!
-//! For example, the reply to `pull 0 16` is `delta 2 [["A1",[1,1,"5"],[],[]]]`. It is sent as
-//! `push [["A1",[1,1,"5"],[],[]]]`, and the next pull is `pull 2 16`. The reply `end 2` ends it.
+//! For example, the reply to `pull 0 16` is `delta 2 [["A1",[1,1,"5"],[],[]]]`. [`sync`] sends it as
+//! `push [["A1",[1,1,"5"],[],[]]]`, and its next pull is `pull 2 16`. The reply `end 2` ends the exchange.
 //!
-//! Cost: that of the lines, and for each peer the room of a line and of a piece.
+//! Cost: linear in the bytes of the lines. Each peer takes the memory of one line and one piece of input.
 #![tactic(auto)]
 
 mod asking;

@@ -10,25 +10,25 @@ use ps_lines::{Incoming, LineFault, send_pieces};
 use std::alloc::{AllocError, Global};
 use std::marker::Model;
 
-/// Why there is no reply.
+/// Why a request had no reply.
 #[derive(Clone, Copy, PartialEq, Eq)]
 pub enum PeerFault {
-    /// What was asked could not be sent, or the source of replies failed.
+    /// The request couldn't be sent, or the source of the replies failed.
     Device,
-    /// The replies ended, with nothing after the reply before.
+    /// The peer closed the connection after a whole reply, so that no further one came.
     Closed,
-    /// The replies ended in the middle of one, or a line of a reply is too long.
+    /// The replies ended in the middle of one, a line of a reply is too long, or an earlier call failed.
     Line,
 }
 
-/// A peer: where requests to it go, and where its replies come from.
+/// A connection to a peer: the sink for requests, and the source of replies.
 ///
-/// Once a request had no reply, none is made any more.
+/// After the first failed call every other one fails as [`PeerFault::Line`], and sends nothing.
 #[derive(Drop)]
 pub struct Peer<S: Source + Drop, K: Sink + Drop> {
     incoming: Incoming<S>,
     sink: K,
-    /// whether the reply to each request was read
+    /// whether no call has failed, so that the next byte to come begins a line
     is_ready: bool,
 }
 
@@ -50,7 +50,7 @@ impl<S: Source + Drop, K: Sink + Drop> Model for Peer<S, K> {
     ghost invariant = { λ p. p.is_ready ≡ true → IsBetweenLines p.incoming };
 }
 
-/// Puts a line to a peer piece by piece, and hands all of it on.
+/// Puts these pieces on a sink, one after another, and flushes it.
 pub(crate) fn send_whole<K: Sink>(line: &[&[u8]], sink: &mut K) -> Result<(), Failed>
     ensures sent { OnOk result (Appends (K.contents sink.old) (K.contents sink.new)
         (flat_map (λ piece. piece.now) line.now)) }
@@ -65,9 +65,9 @@ pub(crate) fn send_whole<K: Sink>(line: &[&[u8]], sink: &mut K) -> Result<(), Fa
 }
 
 impl<S: Source + Drop, K: Sink + Drop> Peer<S, K> {
-    /// Returns a peer over these two that was sent no request yet. Fails only when out of memory.
+    /// Creates a peer that was sent no request yet. Fails only when out of memory.
     ///
-    /// Cost: the room of a line and of a piece.
+    /// Cost: the memory of one line and one piece of input.
     pub fn new(alloc: Global, source: S, sink: K) -> Result<Peer<S, K>, AllocError>
         ensures to_come { IfOk result (λ peer. peer.to_come ≡ S.remaining source) }
         ensures asked { IfOk result (λ peer. peer.asked ≡ K.contents sink) }
@@ -80,9 +80,12 @@ impl<S: Source + Drop, K: Sink + Drop> Peer<S, K> {
         })
     }
 
-    /// Sends a request in pieces, and waits for the reply to it, which [`Peer::reply`] then returns.
+    /// Sends a request, and waits for the first line of the reply. [`Peer::reply`] then returns that line.
     ///
-    /// Cost: linear in the bytes of both, besides the wait for the peer.
+    /// The pieces, joined, are the request with its line feed. An empty request only waits: the reply is then the one
+    /// to an earlier [`Peer::put`].
+    ///
+    /// Cost: linear in the bytes of the request and of the line, besides the wait for the peer.
     pub fn ask(&mut self, request: &[&[u8]]) -> Result<(), PeerFault>
         ensures replied { OnOk result (IsReplied (flat_map (λ piece. piece.now) request.now) self.old self.new) }
         ensures closed { result ≡ Err PeerFault.Closed
@@ -110,7 +113,8 @@ impl<S: Source + Drop, K: Sink + Drop> Peer<S, K> {
         }
     }
 
-    /// Sends a request in pieces. Its reply is read later, by [`Peer::ask`] of a request that has no reply.
+    /// Sends a request, and doesn't wait for its reply. A later [`Peer::ask`] reads it, with a request that has no
+    /// reply of its own: nothing, or an empty line.
     ///
     /// Cost: linear in the bytes.
     pub fn put(&mut self, request: &[&[u8]]) -> Result<(), PeerFault>
@@ -132,7 +136,7 @@ impl<S: Source + Drop, K: Sink + Drop> Peer<S, K> {
         }
     }
 
-    /// Waits for one more line of the last reply, which [`Peer::reply`] then returns.
+    /// Waits for the next line of the last reply. [`Peer::reply`] then returns that line.
     ///
     /// Cost: linear in the bytes of the line, besides the wait for the peer.
     pub fn read_more(&mut self) -> Result<(), PeerFault>
@@ -155,7 +159,7 @@ impl<S: Source + Drop, K: Sink + Drop> Peer<S, K> {
         }
     }
 
-    /// Returns the last line of a reply, without its line feed, and without a carriage return before that.
+    /// Returns the line that was read last, without its line feed and a carriage return before that.
     pub fn reply(&self) -> &[u8]
         ensures { result.now ≡ without_return self.now.line }
     {

@@ -1,4 +1,4 @@
-//! One pull of what a peer has, or one wait for more: the request, and what its reply says.
+//! One pull of a peer's deltas, or one wait for more: the request, and what its reply says.
 ghost use Rattle.std.specs.Prelude.{◌≡◌, ◌≢◌, ◌<◌, ℕ, List, Err, IfErr, IfOk, OnErr, OnOk};
 ghost use Rattle.ps_grid.specs.declared.refusal.Refusal.TheVariants as Refusal;
 ghost use Rattle.ps_peers.specs.Exchange.{IsAwaited, IsDue, IsNext, IsOwn, TellsNews, pull_most, wait_text};
@@ -15,30 +15,30 @@ use ps_grid::Refusal;
 use ps_lines::{PULL, WAIT};
 use std::alloc::{AllocError, Global};
 
-/// What ends an exchange between replicas early.
+/// Why an exchange with a peer ended early.
 #[derive(Debug, Drop)]
 pub enum SyncFault {
-    /// `Device` where a device failed, `Line` where a peer's reply is no reply to what it was asked, `Memory` where
-    /// there is none to keep a peer's `err`.
+    /// `Device`: a device or connection failed. `Line`: a peer's reply doesn't fit its request, or broke off. `Memory`:
+    /// allocation failed.
     Refused(Refusal),
     /// A peer refused a request, with this reply.
     PeerRefused(String),
-    /// A peer closed its connection instead of a reply.
+    /// A peer closed its connection instead of replying.
     Closed,
 }
 
 /// The outcome of a pull.
 #[derive(Clone, Copy)]
 pub enum Due {
-    /// Deltas, as one line: the version after them, and where in the reply the line begins.
+    /// Deltas, joined to one line: the version that they lead up to, and the byte of the reply where the line begins.
     Group(u64, usize),
-    /// There are no more.
+    /// The peer has no more deltas.
     End,
-    /// The peer closed its connection instead of a reply.
+    /// The peer closed its connection instead of replying.
     Closed,
 }
 
-/// Returns the fault of a peer that sent no reply.
+/// Returns the fault that ends an exchange when a request had no reply.
 pub fn fault_of(fault: PeerFault) -> SyncFault
     ensures device { result ≡ Refused Refusal.Device → fault ≡ PeerFault.Device }
     ensures own { (line : List ℕ) → IsOwn result line }
@@ -50,7 +50,8 @@ pub fn fault_of(fault: PeerFault) -> SyncFault
     }
 }
 
-/// Returns the fault of a peer that refused a request by this reply, which is copied. Out of memory it is `Refused`.
+/// Returns the fault for a request that a peer refused: `PeerRefused` with a copy of the reply. Out of memory it is
+/// `Refused` instead, as `Memory`.
 ///
 /// Cost: linear in the reply's bytes.
 pub fn refused(alloc: Global, reply: &str) -> SyncFault
@@ -63,7 +64,7 @@ pub fn refused(alloc: Global, reply: &str) -> SyncFault
     }
 }
 
-/// Asks a peer for the deltas after a version, at most so many, and waits for its reply.
+/// Asks a peer for at most `most` deltas after a version, and waits for its reply.
 fn ask_after<S: Source + Drop, K: Sink + Drop>(
     from: &mut Peer<S, K>,
     version: u64,
@@ -88,7 +89,7 @@ fn ask_after<S: Source + Drop, K: Sink + Drop>(
     from.ask(request.as_slice())
 }
 
-/// Asks a peer to reply once it has more changes than these, and doesn't wait for that reply.
+/// Asks a peer to reply once it has more than `version` changes (`wait`), and doesn't wait for that reply.
 pub fn put_wait<S: Source + Drop, K: Sink + Drop>(
     from: &mut Peer<S, K>,
     version: u64,
@@ -111,7 +112,7 @@ pub fn put_wait<S: Source + Drop, K: Sink + Drop>(
     }
 }
 
-/// Asks a peer to reply once it has more changes than these, and waits for that reply.
+/// Asks a peer to reply once it has more than `version` changes, and waits for that reply.
 fn ask_news<S: Source + Drop, K: Sink + Drop>(
     from: &mut Peer<S, K>,
     version: u64,
@@ -131,10 +132,10 @@ fn ask_news<S: Source + Drop, K: Sink + Drop>(
     from.ask(request.as_slice())
 }
 
-/// What the reply to the pull after a version hands out.
+/// Reads the reply to a pull after `version`.
 ///
-/// Refused as `Line` where it isn't due: the version after a delta has to be above the one that was asked for, and that
-/// of an `end` just this one. A peer's `err` is a fault of its own.
+/// Fails as `Line` if it isn't one: a delta has to lead up to a version greater than `version`, and an `end` has to
+/// name just `version`. Fails as `PeerRefused` if the peer replied `err`.
 fn due_reply(alloc: Global, reply: &[u8], version: u64) -> Result<Due, SyncFault>
     ensures due { IfOk result (IsDue version reply.now) }
     ensures device { IfErr result (λ fault. fault ≢ Refused Refusal.Device) }
@@ -151,17 +152,18 @@ fn due_reply(alloc: Global, reply: &[u8], version: u64) -> Result<Due, SyncFault
     }
 }
 
-/// Pulls the deltas after a version, at most so many, and waits for the reply.
+/// Pulls at most `most` deltas after a version from a peer, and returns what the reply holds.
 ///
-/// The version after a delta has to be above the one of the request, and that of an `end` equal to it.
+/// The version that the deltas lead up to has to be greater than `version`, and that of an `end` equal to it.
 ///
 /// # Errors
 ///
 /// - `Device`: the connection failed.
-/// - `Line`: the reply isn't due.
+/// - `Line`: the reply doesn't fit the request, or it broke off.
+/// - `Memory`: allocation failed.
 /// - `PeerRefused`: the peer replied `err`.
 ///
-/// Cost: linear in the bytes of both, besides the wait for the peer.
+/// Cost: linear in the bytes of the request and of the reply, besides the wait for the peer.
 pub fn next_due<S: Source + Drop, K: Sink + Drop>(
     alloc: Global,
     from: &mut Peer<S, K>,
@@ -181,7 +183,8 @@ pub fn next_due<S: Source + Drop, K: Sink + Drop>(
     }
 }
 
-/// Checks that the reply to a wait for more than `version` changes is due. A peer's `err` is a fault of its own.
+/// Checks the reply to a wait for more than `version` changes. It has to be the word `version` and a number that is at
+/// least `version`. Else it is refused as `Line`, or as `PeerRefused` if the peer replied `err`.
 pub fn due_news(alloc: Global, reply: &[u8], version: u64) -> Result<(), SyncFault>
     ensures due { OnOk result (TellsNews version reply.now) }
     ensures device { IfErr result (λ fault. fault ≢ Refused Refusal.Device) }
@@ -195,10 +198,15 @@ pub fn due_news(alloc: Global, reply: &[u8], version: u64) -> Result<(), SyncFau
     }
 }
 
-/// Waits until a peer has more than `version` changes, or ends the wait, and returns false where it closed instead.
+/// Waits until a peer has more than `version` changes, or until the peer ends the wait. Returns false if it closed
+/// instead.
 ///
-/// Refused as `Device` only where a connection fails, and as `Line` where the reply isn't due: its number has to be at
-/// least `version`. A peer's `err` is a fault of its own.
+/// # Errors
+///
+/// - `Device`: the connection failed.
+/// - `Line`: the reply isn't a number of at least `version` changes, or it broke off.
+/// - `Memory`: allocation failed.
+/// - `PeerRefused`: the peer replied `err`.
 ///
 /// Cost: constant, besides the wait for the peer.
 pub fn await_news<S: Source + Drop, K: Sink + Drop>(

@@ -6,21 +6,23 @@ use ps_lines::reply_words::{DELTA, END, ERR, OK, VERSION};
 use ps_lines::{read_whole, split_word};
 
 /// What a peer replied to a `pull`, a `push` or a `wait`.
+///
+/// A peer's version is the number of changes in its history; a delta reply says which version it leads up to.
 #[derive(Clone, Copy)]
 pub enum PeerReply<'a> {
-    /// `ok`: the line was taken in.
+    /// `ok`: the peer has taken in the pushed changes.
     Taken,
-    /// `delta`: the version after it, and its line.
+    /// `delta`: the version that the deltas lead up to, and their line.
     Delta(u64, &'a [u8]),
-    /// `end`: the peer's version.
+    /// `end`: there are no more deltas; the peer's version.
     End(u64),
-    /// `version`: the peer's version, too.
+    /// `version`: the reply to a `wait`, with the peer's version.
     Version(u64),
     /// `err`, with the whole reply.
     Refused(&'a str),
 }
 
-/// Reads a reply; none where it is no reply to a `pull`, a `push` or a `wait`.
+/// Reads a reply. Returns `None` if the line is no reply to a `pull`, a `push` or a `wait`.
 pub fn read_reply(line: &[u8]) -> Option<PeerReply<'_>>
     ensures { IfSome result (IsTold line.now) }
 {
@@ -45,7 +47,7 @@ pub fn read_reply(line: &[u8]) -> Option<PeerReply<'_>>
     None
 }
 
-/// What stands after a word and its space, where a line begins with it.
+/// Returns the rest of a line that begins with `word`, whose last byte is a space.
 fn after<'a>(line: &'a [u8], word: &[u8]) -> Option<&'a [u8]>
     ensures { IfSome result (λ rest. line.now ≡ word.now ++ rest.now) }
 {

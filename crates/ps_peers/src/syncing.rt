@@ -1,4 +1,4 @@
-//! What one replica has, pulled group by group and handed to another.
+//! Pulls all that one peer has, and pushes it to another.
 ghost use Rattle.std.specs.Prelude.{◌≡◌, ◌⊎◌, ◌<◌, ⊤, Err, OnErr, OnOk};
 ghost use Rattle.ps_grid.specs.declared.refusal.Refusal.TheVariants as Refusal;
 ghost use Rattle.ps_peers.specs.Exchange.{IsAll, IsHalted};
@@ -14,7 +14,7 @@ use ps_grid::Refusal;
 use ps_lines::{LARGEST_GROUP, push_pieces};
 use std::alloc::Global;
 
-/// Pushes the line of a delta to a peer, which has to accept it.
+/// Pushes the line of a delta to a peer. Fails unless the peer replies `ok`.
 fn push<S: Source + Drop, K: Sink + Drop>(
     alloc: Global,
     to: &mut Peer<S, K>,
@@ -40,14 +40,16 @@ fn push<S: Source + Drop, K: Sink + Drop>(
 
 /// Pulls all that one peer has, from version 0 on, pushes each line to another, and returns how many lines it pushed.
 ///
-/// The version after a delta has to be above the one of the pull, and that of an `end` equal to it. So it ends whatever
-/// the peers reply. What was pushed before stays pushed.
+/// The version in a `delta` reply has to be greater than that of its pull, and the version of an `end` equal to it. So
+/// the exchange ends, whatever the peers reply. What was pushed before a fault stays pushed.
 ///
 /// # Errors
 ///
 /// - `Device`: a connection failed.
-/// - `Line`: a reply isn't due to its request.
+/// - `Line`: a reply doesn't fit its request or broke off, or `from` closed before its `end`.
+/// - `Memory`: allocation failed.
 /// - `PeerRefused`: a peer replied `err`.
+/// - `Closed`: `to` closed the connection instead of replying.
 ///
 /// Cost: linear in the bytes of the lines, besides the wait for the peers.
 pub fn sync<S: Source + Drop, K: Sink + Drop, T: Source + Drop, M: Sink + Drop>(

@@ -35,7 +35,7 @@ module _ {State : Type 0} (Line : Answering State) where
   ran_covered covers ended first last written contents read waiting t =
       (_, _, run_on first t.state last t.lines t.others t.text t.due t.run t.since)
 
--- a seat that was entered with a pass, and gave back what its lines left of it
+-- a session that began with a pass, and returned the pass that its lines made of it
 pub attended : {r : ℕ} {h : List Entries} {seat last : PassView} (pass left : PassView) → seat ≡ pass → left ≡ last
     → GoesOn seat last → Ran (SeatLines r h) seat last → IsAttended r h pass left
 attended {r} {h} {seat} {last} pass left entered given on answered = record {
@@ -46,7 +46,7 @@ attended {r} {h} {seat} {last} pass left entered given on answered = record {
   goes_on = subst (λ s. GoesOn s left) entered (subst (λ s. GoesOn seat s) (sym given) on);
 }
 
--- what was handed on, told of the pass that the seat was entered with and of the one that it gave back
+-- what is covered, for the pass that the session began with and the pass that it returned
 pub handed_at : {State : Type 0} (Line : Answering State) (covers : State → Type 0) (ended : Type 0)
     (seat last pass left : State) (written contents : Option (List ℕ)) (read waiting : List ℕ) → seat ≡ pass
     → left ≡ last → IsCovered Line covers ended seat written read last contents waiting

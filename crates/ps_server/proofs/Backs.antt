@@ -1,4 +1,4 @@
--- The passes of a server's seats, how they are had one session after another, and how they come back.
+-- The passes of a server's slots: they pass from session to session, and come back.
 use Rattle.std.proofs.Common.{◌≡◌, ◌+◌, refl, sym, subst, arith, ℕ, zero, suc, Result, Ok, Err}
 use Rattle.std.proofs.Common.{List, [], ◌∷◌, ◌++◌, length, length-append}
 use Rattle.std.specs.Prelude.{MatchResult}
@@ -15,13 +15,13 @@ module _ (r : ℕ) (h : List Entries) where
   Back-push (x ∷ xs) [] old new back on = absurd back
   Back-push (x ∷ xs) (y ∷ ys) old new back on = (back.0, Back-push xs ys old new back.1 on)
 
-  -- a session more
+  -- one session more
   pub one_more : (n k : ℕ) (first pass new : PassView) → k ≡ n + 1 → Attended r h n first pass
       → IsAttended r h pass new → Attended r h k first new
   one_more n k first pass new next some one =
       let is : suc n ≡ k = omega (arith, next) in subst (λ j. Attended r h j first new) is (pass, some, one)
 
-  -- .. which was begun, or has ended already
+  -- .. which has begun, or has ended already
   pub begun : {H : Type 0} (given : H → PassView) (state : Result H PassView) (n k : ℕ) (first pass : PassView)
       → k ≡ n + 1 → Attended r h n first pass
       → MatchResult state (λ s. given s ≡ pass) (λ p. IsAttended r h pass p)

@@ -11,14 +11,14 @@ use Rattle.ps_server.specs.Guards.{BeginsRequest, IsRequest}
 use Rattle.ps_lines.specs.Feeding.{HasNoFeed}
 use Rattle.ps_lines.specs.Words.{first_part}
 
--- the first part of what goes on after a byte that is no line feed
+-- the first part of bytes that begin with a byte other than a line feed
 grows : (c : ℕ) (bytes : List ℕ) → (c == 10) ≡ false → first_part 10 (c ∷ bytes) ≡ c ∷ first_part 10 bytes
 grows c bytes other =
     let n = position_or_len (λ x. x == 10) bytes in
     let next : 1 + n ≡ suc n = omega arith in
     ap (λ (b : Bool). take (cond (not b) (1 + n) 0) (c ∷ bytes)) other ∙ ap (λ k. take k (c ∷ bytes)) next
 
--- .. and after one
+-- .. and with a line feed
 ends : (c : ℕ) (bytes : List ℕ) → (c == 10) ≡ true → first_part 10 (c ∷ bytes) ≡ []
 ends c bytes feed =
     ap (λ (b : Bool). take (cond (not b) (1 + position_or_len (λ x. x == 10) bytes) 0) (c ∷ bytes)) feed
@@ -45,7 +45,7 @@ first_free (c ∷ bytes) = go (c == 10) refl (first_free bytes)
         (All-cons (λ b. b ≢ 10) c (first_part 10 bytes)
         (λ e. true≢false (sym (ap (λ (x : ℕ). x == 10) e) ∙ other)) rest)
 
--- what comes after a line feed is no matter
+-- the first part stays the same, whatever follows a line feed
 pub first_same : (front after rest : List ℕ)
     → first_part 10 ((front ++ 10 ∷ after) ++ rest) ≡ first_part 10 (front ++ 10 ∷ after)
 first_same [] after rest = refl
@@ -66,7 +66,7 @@ is_longer bytes line more same is =
     ap length (sym same ∙ is) ∙ length-append line (10 ∷ more) in
     omega (arith, e)
 
--- no request comes where what was read begins none, whatever comes after it
+-- if what was read begins no request, whatever follows it, no request comes
 pub no_request : (old new : Option (List ℕ)) (front : List ℕ) → Consumes old new front
     → ((rest : List ℕ) → IsRequest (front ++ rest) → ⊥) → BeginsRequest old → ⊥
 no_request None new front read none begins = begins

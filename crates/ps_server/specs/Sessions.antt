@@ -1,4 +1,4 @@
--- What the sessions of a server leave.
+-- What the sessions of a server do to the passes of its slots, and to its sheet.
 use Rattle.std.specs.Prelude.{◌≡◌, ◌+◌, ⊤, ℕ, zero, suc, List, [], ◌∷◌, length, map, min, sum_by}
 use Rattle.ps_delta.specs.Deltas.{Entries}
 use Rattle.ps_lines.specs.Streams.{Run}
@@ -8,26 +8,26 @@ use Rattle.ps_desk.specs.Passes.{PassView}
 use Rattle.ps_desk.specs.Seats.{GoesOn, SeatLines}
 use Rattle.ps_sheet.specs.Sheet.{IsSheet, SheetView}
 
--- ATTENDED: from the pass `old` on, a seat at a desk of this replica and opening history answered these lines, one
--- after another, with this text, and its pass is `new` after them
+-- ATTENDED: a session that began with the pass `old` answered `lines`, one after another, with `text`, and ended with
+-- the pass `new`. Its desk has this replica and began with the history `opening`
 pub record IsAttended (replica : ℕ) (opening : List Entries) (old new : PassView) : Type 0 where
   pub lines : List (List ℕ)
   pub text : List ℕ
   pub run : Run (SeatLines replica opening) old lines text new
   pub goes_on : GoesOn old new
 
--- this many sessions had a pass, one after another: each began with what the one before it had left
+-- `old` became `new` in this many sessions, one after another: each began with the pass that the session before it left
 abbrev pub Attended : ℕ → List Entries → ℕ → PassView → PassView → Type 0
 Attended replica opening zero old new = new ≡ old
 Attended replica opening (suc n) old new =
     (middle : PassView) × Attended replica opening n old middle × IsAttended replica opening middle new
 
--- a seat's pass as it was before its first session, and how many sessions were begun with it
+-- a slot's pass before the slot's first session, and how many sessions the slot has begun
 pub record Turns : Type 0 where
   pub first : PassView
   pub begun : ℕ
 
--- each pass came back, in order, from all its sessions
+-- each slot's pass came back from all sessions of the slot, in the order of the slots
 abbrev pub Back : ℕ → List Entries → List Turns → List PassView → Type 0
 Back replica opening [] [] = ⊤
 Back replica opening [] (new ∷ news) = ⊥
@@ -35,7 +35,7 @@ Back replica opening (turns ∷ rest) [] = ⊥
 Back replica opening (turns ∷ rest) (new ∷ news) =
     Attended replica opening turns.begun turns.first new × Back replica opening rest news
 
--- the passes `news` came back from `sessions` sessions in all, each as its own sessions left it
+-- the passes `olds` came back as `news` from `sessions` sessions in all, each as the sessions of its slot left it
 pub record AreBack (replica : ℕ) (opening : List Entries) (sessions : ℕ) (olds news : List PassView) : Type 0 where
   pub turns : List Turns
   pub firsts : map (λ t. t.first) turns ≡ olds
@@ -45,8 +45,8 @@ pub record AreBack (replica : ℕ) (opening : List Entries) (sessions : ℕ) (ol
 -- SERVED: `sessions` sessions shared the sheet `first`, and left the sheet `last`. There were as many slots as were
 -- asked for, or as there were sessions, if these were fewer. Each slot began with a pass that had seen nothing. The
 -- lines that the sessions of the slot answered, one session after another, took that pass to the one that came back.
--- The history begins with what each pass stands for, has grown by exactly what they appended, and is what one legal
--- list stands for
+-- The history begins with what each pass stands for, has grown by exactly what all passes appended, and is what one
+-- legal list stands for
 pub record IsServed (seats sessions : ℕ) (first last : SheetView) : Type 0 where
   pub is_sheet : IsSheet last
   pub replica : last.replica ≡ first.replica

@@ -7,7 +7,7 @@ use std::io::{Read, Write};
 use std::net::{Shutdown, TcpStream};
 use std::time::{Clock, Duration};
 
-/// How many pieces are read from a connection that gets no slot.
+/// The most pieces that are read from a connection that is turned away.
 const PIECES: usize = 64;
 
 /// What a session's connection carries.
@@ -38,7 +38,7 @@ pub(crate) enum Request {
 }
 
 impl Request {
-    /// Reads the beginning of a connection, and answers it if that is a request of HTTP.
+    /// Returns what a connection wants, by its first bytes. A request of HTTP is answered.
     pub(crate) fn read<C: Clock>(
         clock: &C,
         alloc: Global,
@@ -46,7 +46,7 @@ impl Request {
         about: About<'_>,
         stream: TcpStream,
     ) -> Request {
-        // without it a reply may only come later
+        // otherwise the system may hold a reply back, to send it with a later one
         let _ = stream.set_nodelay(true);
         if idle.is_some() {
             let _ = stream.set_read_timeout(idle);
@@ -74,12 +74,13 @@ impl Request {
 }
 
 impl Arrival {
-    /// Returns whether it is a browser's.
+    /// Returns whether the connection is a browser's.
     pub(crate) fn is_browser(&self) -> bool {
         matches!(self.speech, Speech::Messages)
     }
 
-    /// Tells its client that there is no slot, and closes it.
+    /// Closes the connection, and lets its client know that there is no slot: by the line `no_seat`, or to a browser by
+    /// a close code.
     pub(crate) fn turn_away(self, alloc: Global, no_seat: &[u8]) {
         let Arrival { stream, speech } = self;
         match speech {
@@ -92,12 +93,12 @@ impl Arrival {
     }
 }
 
-/// Writes these bytes on a connection that gets no slot, and closes it.
+/// Writes the bytes `last` on a connection that gets no slot, and closes the connection.
 pub(crate) fn turn_away(mut stream: TcpStream, last: &[u8]) {
     let _ = stream.set_nonblocking(true);
     let _ = stream.write(last);
     let _ = stream.shutdown(Shutdown::Write);
-    // a connection with bytes that were never read would be reset, and its peer could miss what it was sent
+    // With unread bytes the system would reset the connection, and its peer could lose what was sent.
     let mut piece = [0u8; 4096];
     for _ in 0..PIECES {
         match stream.read(&mut piece) {

@@ -11,19 +11,19 @@ pub(crate) struct Bell {
 }
 
 impl Bell {
-    /// Creates a bell that nobody hears yet.
+    /// Creates a bell that wakes nobody yet.
     pub(crate) fn new() -> Bell {
         Bell {
             waker: OnceLock::new(),
         }
     }
 
-    /// Has each ring wake the sleeper of this waker, if the bell wakes nobody yet.
+    /// Has each ring end a sleep by this waker, if the bell has no waker yet.
     pub(crate) fn wakes(&self, waker: Waker) {
         let _ = self.waker.try_set(waker);
     }
 
-    /// Ends the sleep of the main thread, or else its next one.
+    /// Ends the sleep of the main thread, or its next one if it doesn't sleep now.
     pub(crate) fn ring(&self) {
         if let Some(waker) = self.waker.get() {
             let _ = waker.wake();

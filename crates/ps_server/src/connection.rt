@@ -1,4 +1,4 @@
-//! One session at a desk, over any source and sink.
+//! Runs one session at a desk, over any source and sink.
 ghost use Rattle.std.specs.Prelude.{◌≡◌, ◌≢◌, ◌⊎◌, ◌<◌, ℕ, List, [], Err, IfOk, OnOk};
 ghost use Rattle.std.specs.Io.KnownBytes.{Consumes, IsAtEnd};
 ghost use mathlib.Core.List.{IsPrefix};
@@ -25,18 +25,18 @@ use std::time::Clock;
 pub struct Attended<L: DeskName, K> {
     /// The session's pass, as its lines left it.
     pub pass: Pass<L>,
-    /// The token for all that the sent replies report: it is shown to all, and kept if the desk is kept.
+    /// The token that all sessions see what the sent replies report. With a keeper, these changes are durable, too.
     pub covered: K,
     /// The number of lines that had a reply, or why the session ended before the end of its input.
     pub ended: Result<u64, RunFault>,
 }
 
-/// A session at a desk.
+/// A desk, with the pass and the peer of a session that begins at it.
 #[derive(Drop)]
 pub struct DeskSession<'a, L: DeskName, W: Wait + Drop> {
     /// The desk.
     pub desk: &'a Desk<L, W>,
-    /// The pass of its slot.
+    /// The pass of the session's slot.
     pub pass: Pass<L>,
     /// The peer of the session.
     pub presence: Presence<'a>,
@@ -44,11 +44,12 @@ pub struct DeskSession<'a, L: DeskName, W: Wait + Drop> {
 
 /// Answers each line of a source on an output at a slot of a desk, to the end of the input.
 ///
-/// All that the session has seen, made by any session, is shown to all others before any reply is sent.
+/// Before a reply is sent, all sessions can see each change that this session has seen, of any session.
 ///
-/// At any end, also after a fault, `IsCovered` holds: there is a state of its `Seat`, between two of the lines carried
-/// out, whose list is a beginning of the one that is shown. What was sent are replies to the lines up to that state. If
-/// the two devices show their bytes, what was read and written is the transcript of a session at the desk.
+/// At any end, also after a fault, `IsCovered` holds. There is a state of the session's `Seat`, between two of its
+/// lines, whose list of patches is a beginning of the list that all sessions see. What was sent are the replies to the
+/// lines up to that state. If contracts see the bytes of source and sink, what was read and written is the transcript
+/// of a session at the desk.
 ///
 /// Cost: that of [`converse`].
 pub fn attend_lines<
@@ -130,21 +131,24 @@ pub fn attend_lines<
     }
 }
 
-/// A session at a desk that is kept.
+/// A session that begins at a desk, with the keeper that makes the desk's changes durable.
 #[derive(Drop)]
 pub struct KeptSession<'a, L: DeskName, W: Wait + Drop, D: Device + Drop> {
-    /// The session at its desk.
+    /// The desk, and the session's pass and peer.
     pub seat: DeskSession<'a, L, W>,
     /// The keeper that was made for the desk.
     pub keeper: &'a DeskKeeper<L, D>,
 }
 
-/// Answers each line of a source on an output at a slot of a kept desk, to the end of the input, with a watcher.
+/// Answers each line of a source on an output at a slot of a desk with a keeper, to the end of the input. `watcher`
+/// observes each line.
 ///
-/// All that the session has seen, made by any session, is shown to all others and kept before any reply is sent.
+/// Before a reply is sent, each change that the session has seen, of any session, is durable, and all sessions can see
+/// it.
 ///
-/// At any end, also after a fault, `IsCovered` holds: there is a state of its `Seat`, between two of the lines carried
-/// out, whose list is a beginning of the one that is kept. What was sent are replies to the lines up to that state.
+/// At any end, also after a fault, `IsCovered` holds. There is a state of the session's `Seat`, between two of its
+/// lines, whose list of patches is a beginning of the durable one. What was sent are the replies to the lines up to
+/// that state.
 ///
 /// Cost: that of [`converse`]. It may wait while another session syncs.
 pub fn attend_kept<

@@ -1,18 +1,19 @@
-//! Blanks that count what happens in a session.
+//! Ghost counts of what happens in a session, which contracts alone see.
 ghost use Rattle.std.specs.Prelude.{◌≡◌};
 
 use std::sync::ledger::Blank;
 
-/// Blanks that count the failures of a session's devices, and its evaluations.
+/// The blanks (new ledgers, which contracts alone see) that count the failures of a session's devices, and its
+/// evaluations.
 #[derive(Drop)]
 pub struct Counts {
-    /// For the failures of the input.
+    /// The blank for failures of the input.
     pub input: Blank,
-    /// For the failures of the output.
+    /// The blank for failures of the output.
     pub output: Blank,
-    /// For the failures of replies that are held back.
+    /// The blank for failures of the buffer that holds replies back.
     pub held: Blank,
-    /// For the evaluations.
+    /// The blank for evaluations of formulas.
     pub evaluations: Blank,
 }
 

@@ -13,7 +13,7 @@ use ps_lines::{split_part, split_word};
 use std::io::{Chain, ErrorKind, Read};
 use std::sync::ledger::{Blank, Ledger};
 
-/// The most bytes of a first line that are read if it hasn't ended.
+/// The bytes after which a first line without an end counts as a request, unless it begins with a small letter.
 pub const FRONT_LIMIT: usize = 8_192;
 
 /// The most bytes of one read.
@@ -22,13 +22,13 @@ const AT_ONCE: usize = 4_096;
 /// Why a connection is no session.
 #[derive(Clone, Copy, PartialEq, Eq)]
 pub enum Unadmitted {
-    /// It begins with a request of HTTP.
+    /// It begins with the first line of a request of HTTP, or with [`FRONT_LIMIT`] bytes without a line feed.
     Request,
-    /// It couldn't be read, or its first line is out of memory.
+    /// It couldn't be read, or there was no memory for its first line.
     Failed,
 }
 
-/// Returns whether bytes begin with a small letter, as each line does that a session carries out.
+/// Returns whether bytes begin with a small letter, a to z, as all commands of a session do.
 fn begins_small(bytes: &[u8]) -> bool
     ensures { result ≡ begins_small bytes.now }
 {
@@ -51,9 +51,9 @@ fn is_request_line(line: &[u8]) -> bool
     version.unwrap_or(b"").starts_with(b"HTTP/")
 }
 
-/// Returns whether a connection that begins so is a request; none if more bytes have to be read.
+/// Returns whether a connection whose bytes begin with `front` is a request; none if more bytes are needed.
 ///
-/// A first line without an end within [`FRONT_LIMIT`] bytes counts as a request, as the rest can't be waited for.
+/// A first line without an end within [`FRONT_LIMIT`] bytes counts as a request, so that no peer can fill the memory.
 fn judge(front: &[u8]) -> Option<bool>
     ensures small { begins_small front.now ≡ true → result ≡ Some false }
     ensures ended { (line more : List ℕ) → HasNoFeed line → front.now ≡ line ++ 10 ∷ more
@@ -75,15 +75,15 @@ fn judge(front: &[u8]) -> Option<bool>
     None
 }
 
-/// Reads the beginning of a connection into `front`, until it is known to be a session's, and not a request of HTTP.
+/// Reads the beginning of a connection into `front`, until it is known to be a session of lines.
 ///
-/// A first line that begins with a small letter is a session's, and isn't waited for. Any other one is read up to its
-/// end, or up to [`FRONT_LIMIT`] bytes. Without an end there it counts as a request, too.
+/// A first line that begins with a small letter is a session's; its end isn't waited for. Any other first line is read
+/// to its end, to the end of the input, or to about [`FRONT_LIMIT`] bytes.
 ///
 /// # Errors
 ///
-/// - `Request`: a request comes. What was read of it is in `front`.
-/// - `Failed`: the reader fails, or the first line is out of memory.
+/// - `Request`: the first line is a request's, or has no end within [`FRONT_LIMIT`] bytes. `front` has what was read.
+/// - `Failed`: the reader fails, or there is no memory for the first line.
 ///
 /// Cost: linear in the bytes of the first line, and the time that the reader takes.
 pub fn admit<R: Read>(reader: &mut R, front: &mut Vec<u8>) -> Result<(), Unadmitted>
@@ -115,7 +115,7 @@ pub fn admit<R: Read>(reader: &mut R, front: &mut Vec<u8>) -> Result<(), Unadmit
     Err(Unadmitted::Failed)
 }
 
-/// Returns the source of a session's lines: the bytes that were read already, and then all that comes.
+/// Returns the source of a session's lines: the bytes of `front`, which were read already, and then those of `reader`.
 pub fn resume<'a, R: Read + Drop, L: Ledger>(
     front: &'a [u8],
     reader: R,

@@ -8,18 +8,19 @@ use std::time::Duration;
 /// How long a session may be silent before its first line is whole, in seconds. `--idle` sets another time.
 const FIRST_SECONDS: u64 = 30;
 
-/// The connection of a session of lines. Once its first line is whole it may be silent for longer.
+/// The connection of a session of lines. Once the first line is whole, the client may be silent for longer.
 #[derive(Drop)]
 pub(crate) struct LineStream<'a> {
     stream: &'a TcpStream,
-    /// whether the time for which it may be silent no longer changes
+    /// whether the read timeout stays as it is
     is_settled: bool,
 }
 
 impl<'a> LineStream<'a> {
-    /// Wraps the connection of a session that has sent these bytes, and that may be silent for `idle`.
+    /// Wraps the connection of a session whose client has sent the bytes `front`, and may be silent for `idle`, which
+    /// is the connection's read timeout already.
     ///
-    /// If that is none, it has half a minute before its first line is whole, and no limit after that.
+    /// If `idle` is none, the client may be silent for half a minute until its first line is whole, and for ever after.
     pub(crate) fn new(
         front: &[u8],
         stream: &'a TcpStream,
@@ -38,7 +39,7 @@ impl<'a> LineStream<'a> {
     }
 }
 
-/// Returns whether a line ends in these bytes.
+/// Returns whether these bytes have the end of a line.
 fn has_line(bytes: &[u8]) -> bool {
     bytes.contains(&b'\n')
 }

@@ -1,4 +1,4 @@
-//! The listener of a server, and the sleep of its main thread until somebody comes.
+//! The listener of a server, and the sleep of the main thread until a connection comes.
 
 use crate::bell::Bell;
 use mio::unix::SourceFd;
@@ -20,12 +20,13 @@ const ENFILE: i32 = 23;
 /// The system's error if it has no memory.
 const ENOMEM: i32 = 12;
 
-/// The number under which a connection ends a sleep, and that of a ring.
+/// The number of the poll's event that a connection comes.
 const COMES: usize = 0;
 
+/// The number of the poll's event that the bell rings.
 const RINGS: usize = 1;
 
-/// What the main thread sleeps on.
+/// A poll in which the main thread sleeps until a connection comes or the bell rings.
 #[derive(Drop)]
 struct Sleep {
     poll: Poll,
@@ -33,7 +34,8 @@ struct Sleep {
 }
 
 impl Sleep {
-    /// Creates a sleep that a connection ends, or the bell; none where the system or the memory doesn't allow it.
+    /// Creates a poll that a connection at `listener` ends, or a ring of `bell`. Returns none if the system refuses a
+    /// part of it, or when out of memory.
     fn open<R: Net>(rt: &R, alloc: Global, listener: &TcpListener, bell: &Bell) -> Option<Sleep> {
         let poll = Poll::new(rt).ok()?;
         let events = Events::with_capacity(alloc, 2).ok()?;
@@ -47,16 +49,16 @@ impl Sleep {
     }
 }
 
-/// A listener.
+/// A listener that doesn't block, and the poll in which the main thread waits for it.
 #[derive(Drop)]
 pub(crate) struct Listener<'a> {
     listener: &'a TcpListener,
-    /// none if the main thread can't sleep until somebody comes
+    /// none if the main thread can't sleep until a connection comes
     sleep: Option<Sleep>,
 }
 
 impl<'a> Listener<'a> {
-    /// Returns a listener that doesn't wait.
+    /// Makes the listener non-blocking, and has the bell wake the main thread from now on.
     pub(crate) fn open<R: Net>(
         rt: &R,
         alloc: Global,
@@ -79,9 +81,11 @@ impl<'a> Listener<'a> {
         }
     }
 
-    /// Sleeps until a connection comes or the bell rings, for `longest` at most. Returns whether it could.
+    /// Sleeps until a connection comes or the bell rings, for `longest` at most. Returns false at once if the system
+    /// doesn't allow that.
     ///
-    /// What happened since the last connection that [`Listener::come`] didn't find ends the sleep at once.
+    /// A ring, or a connection since [`Listener::come`] last found none, ends the sleep at once. An earlier connection
+    /// that wasn't accepted doesn't.
     pub(crate) fn sleep(&mut self, longest: Option<Duration>) -> bool {
         match &mut self.sleep {
             Some(sleep) => sleep.poll.poll(&mut sleep.events, longest).is_ok(),
@@ -89,14 +93,13 @@ impl<'a> Listener<'a> {
         }
     }
 
-    /// Leaves the listener as it was.
+    /// Makes the listener blocking again.
     pub(crate) fn close(&self) {
         let _ = self.listener.set_nonblocking(false);
     }
 }
 
-/// Returns whether no connection can be accepted for a reason that passes: too many files are open, or there is no
-/// memory.
+/// Returns whether the reason for which no connection can be accepted may pass: too many open files, or no memory.
 pub(crate) fn passes(error: &io::Error) -> bool {
     match error.raw_os_error() {
         Some(number) => number == EMFILE || number == ENFILE || number == ENOMEM,
@@ -104,9 +107,9 @@ pub(crate) fn passes(error: &io::Error) -> bool {
     }
 }
 
-/// Accepts the next connection of a listener, again if the call was interrupted or its client has left meanwhile.
+/// Accepts the next connection of a listener. Tries again if the call was interrupted or the client has left meanwhile.
 ///
-/// Any other failure is returned, also that of a listener that doesn't wait and has no connection.
+/// Any other failure is returned: `WouldBlock`, too, if a non-blocking listener has no connection.
 fn accept<R: Wait>(rt: &R, listener: &TcpListener) -> io::Result<TcpStream> {
     for _ in rt.forever() {
         match listener.accept() {

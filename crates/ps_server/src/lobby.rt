@@ -13,10 +13,11 @@ use std::time::{Clock, Duration, Instant};
 /// The most connections that may wait for a slot at a time.
 const MOST: usize = 512;
 
-/// The most connections whose first bytes may be awaited at a time. Each has two files meanwhile.
+/// The most connections whose first bytes may be awaited at a time. Each has two file descriptors meanwhile.
 const MOST_UNHEARD: usize = 200;
 
-/// Within how many milliseconds a connection is heard once its bytes are there.
+/// How long a new connection waits, in milliseconds, if as many as may be are awaited. It is enough to read the first
+/// bytes of one that has sent them.
 const SOON: u64 = 50;
 
 /// A connection that waits for a slot.
@@ -34,7 +35,7 @@ struct Unheard {
     handle: TcpStream,
 }
 
-/// The connections of a lobby.
+/// The connections of a lobby, which the lobby has under its lock.
 #[derive(Drop)]
 struct Present {
     unheard: Vec<Unheard>,
@@ -42,7 +43,7 @@ struct Present {
     waiting: Vec<Waiting>,
     /// the number of the next connection
     next: u64,
-    /// whether something happened since the last pause
+    /// whether a connection's first bytes came, or a session ended, since the main thread last asked
     has_changed: bool,
     /// whether no slot is given any more
     has_no_slots: bool,
@@ -52,10 +53,10 @@ struct Present {
 #[derive(Drop)]
 pub(crate) struct Lobby {
     present: Mutex<Present>,
-    /// notified when something happens
+    /// notified when a connection's first bytes came, or a session ended
     changed: Condvar,
     alloc: Global,
-    /// how long a connection may wait
+    /// how long a connection may wait for a slot
     patience: Duration,
     /// how long the peer of a session may send nothing before the session ends
     idle: Option<Duration>,
@@ -67,12 +68,12 @@ pub(crate) struct Lobby {
 }
 
 impl Present {
-    /// Returns whether no more connections may be awaited.
+    /// Returns whether the first bytes of as many connections are awaited as may be.
     fn is_full(&self) -> bool {
         self.unheard.len() >= self.unheard.capacity()
     }
 
-    /// Takes out the connection that has been silent longest, if no more may be awaited.
+    /// Takes out the connection whose first bytes are awaited longest, if as many are awaited as may be.
     fn make_room(&mut self) -> Option<Unheard> {
         if self.is_full() && !self.unheard.is_empty() {
             Some(self.unheard.remove(0))
@@ -109,7 +110,8 @@ impl Lobby {
         self.idle
     }
 
-    /// Reads what a connection wants, where one more browser may follow the changes if `has_room` is true.
+    /// Returns what a connection wants, by its first bytes. A request of HTTP is answered; one to follow the changes is
+    /// refused unless `has_room` is true.
     pub(crate) fn hear<C: Clock>(&self, clock: &C, stream: TcpStream, has_room: bool) -> Request {
         let about = About {
             here: self.browsers.load(Ordering::SeqCst),
@@ -124,14 +126,14 @@ impl Lobby {
         turn_away(stream, self.no_seat.as_bytes());
     }
 
-    /// Notes that an arrival has a slot.
+    /// Notes that the session of an arrival begins, to count the browsers.
     pub(crate) fn has_slot(&self, arrival: &Arrival) {
         if arrival.is_browser() {
             self.browsers.fetch_add(1, Ordering::SeqCst);
         }
     }
 
-    /// Notes that the session of an arrival is over.
+    /// Notes that the session of an arrival is over, and closes its connection.
     pub(crate) fn is_over<R: Wait>(&self, rt: &R, arrival: Arrival) {
         if arrival.is_browser() {
             self.browsers.fetch_sub(1, Ordering::SeqCst);
@@ -140,9 +142,10 @@ impl Lobby {
         self.note(rt);
     }
 
-    /// Notes a connection whose first bytes are awaited, and returns its number; none if it couldn't be closed later.
+    /// Notes a connection whose first bytes are awaited, and returns a number for it; none if the system has no second
+    /// handle to it, by which the lobby could close it later.
     ///
-    /// If there are too many, and none is heard soon, the one that was silent for longest is turned away.
+    /// If as many as may be are awaited, and none is heard soon, the one that was silent for longest is turned away.
     pub(crate) fn number<R: Wait + Clock>(&self, rt: &R, stream: &TcpStream) -> Option<u64> {
         let handle = stream.try_clone().ok()?;
         let present = self.present.lock(rt);
@@ -164,7 +167,7 @@ impl Lobby {
         Some(number)
     }
 
-    /// Notes that the first bytes of a connection came, or that it ended.
+    /// Notes that the first bytes of the connection with this number came, or that it ended.
     pub(crate) fn is_heard<R: Wait>(&self, rt: &R, number: u64) {
         let mut present = self.present.lock(rt);
         present.unheard.retain(|it| it.number != number);
@@ -173,7 +176,8 @@ impl Lobby {
         self.changed.notify_one();
     }
 
-    /// Lets an arrival wait for a slot, if there is room and more are wanted.
+    /// Has an arrival wait for a slot. It is turned away if too many wait, if no slot is given any more, or if the
+    /// clock fails.
     pub(crate) fn enter<R: Wait + Clock>(&self, rt: &R, arrival: Arrival) {
         let mut present = self.present.lock(rt);
         let has_room = present.waiting.len() < present.waiting.capacity();
@@ -188,13 +192,14 @@ impl Lobby {
         }
     }
 
-    /// Notes that something happened, so that a pause ends.
+    /// Notes that a session ended, so that a pause ends.
     fn note<R: Wait>(&self, rt: &R) {
         self.present.lock(rt).has_changed = true;
         self.changed.notify_one();
     }
 
-    /// Waits until something happens, or for `millis` milliseconds, and returns whether something did.
+    /// Waits until a connection's first bytes come or a session ends, for `millis` milliseconds at most. Returns
+    /// whether either happened since the last call of this or of [`Lobby::has_changed`].
     pub(crate) fn pause<R: Wait + Clock>(&self, rt: &R, millis: u64) -> bool {
         let present = self.present.lock(rt);
         let pause = Duration::from_millis(millis);
@@ -207,7 +212,8 @@ impl Lobby {
         has_changed
     }
 
-    /// Returns whether something happened since the last call or pause.
+    /// Returns whether a connection's first bytes came, or a session ended, since the last call of this or of
+    /// [`Lobby::pause`].
     pub(crate) fn has_changed<R: Wait>(&self, rt: &R) -> bool {
         let mut present = self.present.lock(rt);
         let has_changed = present.has_changed;
@@ -215,7 +221,7 @@ impl Lobby {
         has_changed
     }
 
-    /// Returns for how long the arrival that has waited longest may still wait; none if none waits.
+    /// Returns how much longer the arrival that has waited longest may wait; none if no arrival waits.
     pub(crate) fn patience_left<R: Wait + Clock>(&self, rt: &R) -> Option<Duration> {
         let present = self.present.lock(rt);
         let since = present.waiting.first()?.since;
@@ -234,7 +240,7 @@ impl Lobby {
         !self.present.lock(rt).waiting.is_empty()
     }
 
-    /// Takes out the arrival that has waited longest.
+    /// Takes out the arrival that has waited longest, if any waits.
     pub(crate) fn next<R: Wait>(&self, rt: &R) -> Option<Arrival> {
         let mut present = self.present.lock(rt);
         if present.waiting.is_empty() {
@@ -243,8 +249,8 @@ impl Lobby {
         Some(present.waiting.remove(0).arrival)
     }
 
-    /// Takes out the arrival that has waited longest, if it has waited too long by `now`. Without a time, it counts as
-    /// late.
+    /// Takes out the arrival that has waited longest, if it has waited too long by `now`. If `now` is none, as the
+    /// clock failed, it counts as late.
     fn next_late<R: Wait>(&self, rt: &R, now: Option<Instant>) -> Option<Arrival> {
         let mut present = self.present.lock(rt);
         let since = present.waiting.first()?.since;
@@ -266,7 +272,7 @@ impl Lobby {
         }
     }
 
-    /// Turns away the arrivals that have waited too long by `now`.
+    /// Turns away the arrivals that have waited too long by `now`; all if `now` is none.
     pub(crate) fn turn_away_late<R: Wait>(&self, rt: &R, now: Option<Instant>) {
         for _ in 0..MOST {
             match self.next_late(rt, now) {

@@ -1,15 +1,16 @@
-//! The watcher of the sessions of a kept desk.
+//! A watcher of a session's lines, for a server that keeps its sheet in a file.
 
 use crate::bell::Bell;
 use ps_lines::{Outcome, Watcher};
 use std::sync::atomic::{AtomicBool, Ordering};
 
-/// A watcher that raises a mark if its session is pushed changes of the own replica that the sheet hadn't.
+/// A watcher that sets a mark, and rings the bell, if its session is pushed changes of the sheet's own replica that the
+/// sheet lacked.
 #[derive(Clone, Copy)]
 pub(crate) struct Marker<'a> {
-    /// the mark of all sessions
+    /// the mark that all sessions share
     pub(crate) mark: &'a AtomicBool,
-    /// the bell of the server
+    /// the bell that wakes the main thread
     pub(crate) bell: &'a Bell,
 }
 

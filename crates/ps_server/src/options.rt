@@ -15,11 +15,14 @@ pub struct ServerOptions<'a> {
     pub sessions: Option<u64>,
     /// The number of sessions at a time, 1 to `SEATS`.
     pub seats: usize,
-    /// The title that the page shows by itself, one line.
+    /// The title that the page has unless its user gave it another, one line.
     pub title: &'a str,
     /// The time that a connection waits for a slot.
     pub wait: Duration,
-    /// The time that the peer of a session may send nothing before the session ends; none for no limit.
+    /// How long the peer of a session may be silent before the session ends.
+    ///
+    /// If it is none, a peer has half a minute for its first whole line, and no limit after it; a browser may be silent
+    /// for five minutes.
     pub idle: Option<Duration>,
     ghost sessions_in_range: { ForSome sessions (λ n. 1 ≤ n) },
     ghost seats_in_range: { (1 ≤ seats) × (seats ≤ SEATS) },

@@ -1,4 +1,4 @@
-//! What the thread of a new connection does.
+//! Lets new connections in: a thread for each reads its first bytes.
 
 use crate::arrival::Request;
 use crate::shared::Server;
@@ -11,10 +11,10 @@ use std::sync::Wait;
 use std::thread::{Scope, Threads};
 use std::time::Clock;
 
-/// Lets a connection in, and returns whether it could: it is turned away if there is no second handle to it.
+/// Starts a thread that reads a new connection's first bytes, answers a request, or has the connection wait for a slot.
 ///
-/// A thread of its own reads its first bytes; if none can be started, they are read here. If the connection asks for
-/// the news, others report them.
+/// Returns false if the system has no second handle to the connection, which is turned away then; true otherwise. If no
+/// thread can be started, this one does that work. A connection for the news is left to the threads of `Watchers`.
 pub(crate) fn let_in<
     's,
     E,

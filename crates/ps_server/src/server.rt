@@ -27,7 +27,7 @@ use std::sync::Wait;
 use std::thread::Threads;
 use std::time::Clock;
 
-/// A sheet that a server closed.
+/// The result of a server that has ended.
 #[derive(Drop)]
 pub struct Closed<J = ()> {
     /// The sheet, as its sessions left it.
@@ -47,10 +47,11 @@ pub struct Closed<J = ()> {
 /// - A connection that finds no free slot waits for one. After the time to wait, or if 512 others already wait, it gets
 ///   `err 21 seat` and is closed.
 /// - A session whose connection fails ends alone. So does one whose peer sends nothing for the idle time. Without an
-///   idle time, a peer that never sent a whole line has half a minute.
+///   idle time, a peer has half a minute for its first whole line, and a browser may be silent for five minutes.
 /// - A page may also follow the changes, without a slot: it gets the number of changes, after each change.
 /// - Once as many sessions as were asked for have begun, requests are still answered until the last session has ended.
-/// - If no number was asked for, and the system has no file or no memory for a connection, it warns and tries again.
+/// - If no number was asked for, and the system has no file or no memory for a connection, the server warns and tries
+///   again.
 ///
 /// # Errors
 ///
@@ -83,14 +84,15 @@ pub fn serve_on<R: Net + Threads + Wait + Clock + Sync, W: Warn>(
     })
 }
 
-/// Serves sessions on a sheet as [`serve_on`] does, and keeps it in this journal.
+/// Serves sessions on a sheet as [`serve_on`] does, and makes their changes durable in this journal.
 ///
 /// All that a reply shows or acknowledges is durable before the reply is sent. At the end the journal has all of the
-/// closed sheet's history. The warner warns soon after a session was pushed new changes of the sheet's own replica.
+/// closed sheet's history. It calls `warner` soon after a session was pushed changes of the sheet's own replica that
+/// the sheet lacked.
 ///
-/// If the journal's device fails, or a line is out of memory, nothing is sent any more that isn't durable. The sessions
-/// are ended, and the result is `Device`. There is one exception, when only memory was lacking: if no session was left
-/// to be begun, and the last sync, at the close, succeeds, the result is as if there had been memory.
+/// If the journal's device fails, or there is no memory for one of its lines, all sessions are ended, and the result is
+/// `Device`. No session sends what isn't durable. There is one exception, when only memory was lacking: if no session
+/// was left to begin, and the last sync, at the close, succeeds, the result is as if there had been memory.
 ///
 /// # Errors
 ///
@@ -157,7 +159,7 @@ fn seats_for(options: ServerOptions<'_>) -> usize
     }
 }
 
-/// Serves the sessions of a desk that is made from these parts, with `changes` changes, and returns what it closed.
+/// Makes a desk from these parts, whose sheet has `changes` changes, serves its sessions, and returns the closed sheet.
 fn serve_parts<
     L: DeskName + Send + Sync,
     R: Net + Threads + Wait + Clock + Sync,
@@ -202,7 +204,8 @@ fn serve_parts<
     }
 }
 
-/// Returns the keeper of a desk that was just opened with `changes` changes, if there is a journal of them.
+/// Returns the keeper of a desk that was just opened with `changes` changes, if there is a journal of them. The keeper
+/// makes the desk's changes durable in it.
 fn keeper_of<L: DeskName, W: Wait + Drop, D: Device + Drop>(
     journal: Option<Journal<D>>,
     desk: &Desk<L, W>,
@@ -220,7 +223,7 @@ fn keeper_of<L: DeskName, W: Wait + Drop, D: Device + Drop>(
     }
 }
 
-/// Closes a desk whose passes are back, and syncs what isn't durable yet, if it has a keeper.
+/// Closes a desk to which all passes have returned, and syncs what isn't durable yet, if there is a keeper.
 fn close<L: DeskName, W: Wait + Drop, D: Device + Drop, R: Wait>(
     resources: Resources<'_, R>,
     desk: Desk<L, W>,
@@ -242,7 +245,7 @@ fn close<L: DeskName, W: Wait + Drop, D: Device + Drop, R: Wait>(
     let Some(keeper) = keeper else {
         return Ok((desk.close(threads, passes), None));
     };
-    // that all of the history is durable says more than the tokens of the sessions
+    // The close proves all of the history durable. So no tokens of sessions, each for a part of it, are passed in.
     let told = Vec::new(alloc);
     let Ended {
         sheet,

@@ -1,4 +1,4 @@
-//! Sessions of one desk, each over a connection and in a thread of its own, and how a slot passes to the next.
+//! Runs the sessions of one desk, each over a connection and in a thread of its own, in slots that they get in turn.
 ghost use Rattle.std.specs.Prelude.{◌≡◌, ◌≤◌, ◌⊎◌, [], Some, IfErr, IfOk, IfSome, length, map, sum_by, vec_capacity};
 ghost use Rattle.std.specs.Prelude.{vec_len};
 ghost use Rattle.ps_grid.specs.declared.refusal.Refusal.TheVariants.{Device, Memory};
@@ -24,13 +24,13 @@ use std::thread::{Scope, Threads};
 use std::time::{Clock, Instant};
 use std::{io, thread};
 
-/// The length of a pause in which nobody comes, in milliseconds, if the main thread can't sleep until somebody does.
+/// The milliseconds between two looks for a connection, if the main thread can't sleep until one comes.
 const PAUSE: u64 = 5;
 
-/// The length of a pause in which no connection can be accepted, in milliseconds.
+/// The milliseconds until the next try, after the system had no file or no memory for a connection.
 const CROWDED_PAUSE: u64 = 100;
 
-/// Returns a place for each of `count` sessions to show that it is over.
+/// Returns a flag for each of `count` slots, which the slot's session raises at its end.
 fn end_flags(alloc: Global, count: usize) -> Result<Vec<AtomicBool>, AllocError>
     ensures { IfOk result (λ flags. vec_len flags ≡ count) }
 {
@@ -41,7 +41,7 @@ fn end_flags(alloc: Global, count: usize) -> Result<Vec<AtomicBool>, AllocError>
     Ok(flags)
 }
 
-/// Makes a slot for each pass, which no session has had, with a flag of its own.
+/// Appends a new slot for each pass to `slots`, with a flag of its own.
 fn set_up<'s, L: DeskName>(
     passes: Vec<Pass<L>>,
     flags: &'s [AtomicBool],
@@ -59,7 +59,7 @@ fn set_up<'s, L: DeskName>(
     }
 }
 
-/// Returns the number of sessions that were begun; none if it has more than 64 bits.
+/// Returns the number of sessions that all slots have begun; none if it has more than 64 bits.
 fn begun_by<L: DeskName>(slots: &Vec<Slot<'_, L>>) -> Option<u64>
     ensures { IfSome result (λ n. n ≡ sum_by (λ t. t.begun) slots.now.items) }
 {
@@ -70,14 +70,14 @@ fn begun_by<L: DeskName>(slots: &Vec<Slot<'_, L>>) -> Option<u64>
     Some(all)
 }
 
-/// Returns the number of sessions that are still to be begun; none if they have no end.
+/// Returns how many of the `asked` sessions are still to begin; none if no number was asked for.
 fn left_of<L: DeskName>(asked: Option<u64>, slots: &Vec<Slot<'_, L>>) -> Option<u64>
     ensures { result ≡ Some 0 → asked ≡ Some (sum_by (λ t. t.begun) slots.now.items) }
 {
     asked?.checked_sub(begun_by(slots)?)
 }
 
-/// Takes back the passes of sessions that are over, and gives free slots to the connections that wait, if that is due.
+/// If `is_due`, takes back the passes of sessions that are over, and gives free slots to the connections that wait.
 fn turn_all<
     's,
     E,
@@ -101,9 +101,11 @@ fn turn_all<
     }
 }
 
-/// Lets one connection in, and returns whether something happened.
+/// Lets one connection in, or waits until one comes or something happens. Returns whether a connection was let in, a
+/// connection's first bytes came, or a session ended.
 ///
-/// If there is none it rests. It pauses if none can be accepted or let in for now.
+/// If the system has no file or no memory for a connection, it warns and waits before the next try. It fails if no
+/// connection can be accepted for another reason, or for this one while a number of sessions is asked for.
 fn let_in<
     's,
     E,
@@ -137,8 +139,8 @@ fn let_in<
     }
 }
 
-/// Waits until a connection comes, something happens, or a connection has waited too long for a slot. Returns whether
-/// something happened.
+/// Waits until a connection comes, the bell rings, or a connection has waited too long for a slot. Returns whether a
+/// connection's first bytes came, or a session ended.
 fn rest<R: Wait + Clock>(rt: &R, lobby: &Lobby, listener: &mut Listener<'_>) -> bool {
     if listener.sleep(lobby.patience_left(rt)) {
         lobby.has_changed(rt)
@@ -147,10 +149,10 @@ fn rest<R: Wait + Clock>(rt: &R, lobby: &Lobby, listener: &mut Listener<'_>) -> 
     }
 }
 
-/// Gives the slots to the connections that come, until as many sessions as were asked for have begun.
+/// Gives the slots to the connections that come, until as many sessions as were asked for have begun, and returns their
+/// number.
 ///
-/// Returns their number; none if a connection can't be accepted, or sessions may not go on. Meanwhile it warns as
-/// `warn_by` does.
+/// Returns none if a connection can't be accepted, or if sessions have to end. Meanwhile it warns as [`warn_by`] does.
 fn give_slots<
     's,
     E,
@@ -181,7 +183,7 @@ fn give_slots<
         let Ok(happened) = let_in(scope, resources, server, listener, warner) else {
             return None;
         };
-        // a connection that comes while slots are given gets one at the next turn
+        // Read before slots are given: a connection that comes meanwhile isn't late, and can get a slot next time.
         let now = Instant::now(resources.threads).ok();
         let is_due = happened || server.lobby.has_waiting(resources.threads);
         turn_all(scope, resources, server, slots, is_due);
@@ -191,9 +193,9 @@ fn give_slots<
     unreachable!()
 }
 
-/// Answers the requests that come while the last sessions are under way, and turns those away that want a slot.
+/// Answers the requests that come while the last sessions are under way, and turns away connections that want a slot.
 ///
-/// It ends once all sessions are over, or may not go on.
+/// It returns once all sessions are over or have to end, or once no connection can be accepted.
 fn see_out<
     's,
     E,
@@ -230,7 +232,7 @@ fn warn_by<L: DeskName, D: Device + Drop, T: Warn>(shared: &SharedState<L, D>, w
     }
 }
 
-/// Ends each session that is under way soon, if they may not go on.
+/// Closes the connections of the sessions that are under way, if sessions have to end.
 fn hang_up<L: DeskName, D: Device + Drop>(shared: &SharedState<L, D>, slots: &Vec<Slot<'_, L>>) {
     if !shared.goes_on() {
         for slot in slots {
@@ -239,7 +241,7 @@ fn hang_up<L: DeskName, D: Device + Drop>(shared: &SharedState<L, D>, slots: &Ve
     }
 }
 
-/// Waits for the end of each session that is under way, and gives their passes back.
+/// Waits for the end of each session that is under way, and appends the passes of all slots to `back`, in order.
 fn end_all<L: DeskName, R: Threads>(rt: &R, slots: Vec<Slot<'_, L>>, back: &mut Vec<Pass<L>>)
     requires none { back.old.items ≡ [] }
     requires room { vec_len slots ≤ vec_capacity back.old }
@@ -257,9 +259,8 @@ fn end_all<L: DeskName, R: Threads>(rt: &R, slots: Vec<Slot<'_, L>>, back: &mut 
 /// # Errors
 ///
 /// - `Memory`: out of memory, before the first connection is accepted.
-/// - `Device`: a connection can't be accepted, or what the sessions have seen can't be kept while some are still to be
-///   begun; returned once those that were begun have ended. If none is still to be begun, the last sync decides whether
-///   all is kept.
+/// - `Device`: a connection can't be accepted, or a sync failed while sessions were still to begin; returned once those
+///   that were begun have ended. If a sync fails later, the result is `Ok`, and the sync at the close decides.
 pub(crate) fn serve_all<
     L: DeskName + Send + Sync,
     W: Wait + Drop + Send,

@@ -13,14 +13,15 @@ use std::net::TcpStream;
 use std::sync::Wait;
 use std::sync::atomic::{AtomicBool, Ordering};
 
-/// What the sessions of a desk share besides it. If there is a keeper, they report only what it has kept.
+/// What the sessions of a desk share besides the desk. If there is a keeper, sessions send only what it has made
+/// durable.
 #[derive(Drop)]
 pub(crate) struct SharedState<L: DeskName, D: Device + Drop> {
     keeper: Option<DeskKeeper<L, D>>,
     bell: Bell,
-    /// a sync failed
+    /// whether sessions have to end, as a sync failed
     is_stopped: AtomicBool,
-    /// a session was pushed changes of the desk's own replica that were new
+    /// whether a session was pushed changes of the desk's own replica that the desk lacked
     is_elsewhere: AtomicBool,
 }
 
@@ -37,7 +38,7 @@ impl<L: DeskName, D: Device + Drop> SharedState<L, D> {
         }
     }
 
-    /// Returns the keeper, once no session uses it any more.
+    /// Returns the keeper itself, if there is one, after the last session.
     pub(crate) fn into_keeper(self) -> Option<DeskKeeper<L, D>>
         ensures { result ≡ self.keeper }
     {
@@ -45,14 +46,15 @@ impl<L: DeskName, D: Device + Drop> SharedState<L, D> {
         keeper
     }
 
-    /// Returns the keeper, for a session.
+    /// Returns the keeper for a session to use, if there is one.
     pub(crate) fn keeper(&self) -> Option<&DeskKeeper<L, D>>
         ensures { is_some result ≡ is_some self.now.keeper }
     {
         self.keeper.as_ref()
     }
 
-    /// Keeps all that is shown by now, if there is a keeper, and returns whether that succeeded.
+    /// Makes all that the desk shows by now durable, and returns whether that succeeded. Without a keeper it does
+    /// nothing, and returns true.
     pub(crate) fn has_kept<W: Wait + Drop, R: Wait>(
         &self,
         resources: Resources<'_, R>,
@@ -65,7 +67,7 @@ impl<L: DeskName, D: Device + Drop> SharedState<L, D> {
         }
     }
 
-    /// Returns the watcher of a session that has the keeper.
+    /// Returns a watcher of a session's lines, which sets `is_elsewhere`.
     pub(crate) fn marker(&self) -> Marker<'_> {
         Marker {
             mark: &self.is_elsewhere,
@@ -73,7 +75,7 @@ impl<L: DeskName, D: Device + Drop> SharedState<L, D> {
         }
     }
 
-    /// Stops all sessions: what one of them has seen couldn't be kept.
+    /// Has the main thread end all sessions, since what one of them has seen couldn't be made durable.
     pub(crate) fn stop(&self) {
         self.is_stopped.store(true, Ordering::SeqCst);
         self.bell.ring();
@@ -84,19 +86,19 @@ impl<L: DeskName, D: Device + Drop> SharedState<L, D> {
         !self.is_stopped.load(Ordering::SeqCst)
     }
 
-    /// Returns whether the replica of the desk makes changes elsewhere, too: new changes of its own were pushed to a
-    /// session.
+    /// Returns whether a session was pushed changes of the desk's own replica that the desk lacked. So the replica
+    /// makes changes elsewhere, too, or the desk's file has lost some.
     pub(crate) fn is_elsewhere(&self) -> bool {
         self.is_elsewhere.load(Ordering::SeqCst)
     }
 
-    /// Returns the bell of the server.
+    /// Returns the bell that wakes the main thread.
     pub(crate) fn bell(&self) -> &Bell {
         &self.bell
     }
 
-    /// Returns a second handle to the connection, if there is a keeper, to close the connection once sessions have to
-    /// stop.
+    /// Returns a second handle to a session's connection, if there is a keeper. The main thread closes the connection
+    /// by it once sessions have to end.
     pub(crate) fn closing_handle(&self, stream: &TcpStream) -> Option<TcpStream> {
         match self.keeper {
             Some(_) => stream.try_clone().ok(),
@@ -105,20 +107,21 @@ impl<L: DeskName, D: Device + Drop> SharedState<L, D> {
     }
 }
 
-/// A server: its desk, what its sessions share besides, and how many of them are asked for.
+/// A server: its desk, what its sessions share besides, and how many sessions are asked for.
 #[derive(Drop)]
 pub(crate) struct Server<'s, L: DeskName, W: Wait + Drop, D: Device + Drop> {
     pub(crate) desk: &'s Desk<L, W>,
     pub(crate) shared: &'s SharedState<L, D>,
     pub(crate) lobby: &'s Lobby,
-    /// none if the system or the memory doesn't allow them
+    /// what the two waiting threads share; none if the system doesn't allow them, or there was no memory
     pub(crate) watchers: Option<&'s Watchers>,
-    /// none if they have no end
+    /// the number of sessions to serve; none to serve until the program is stopped
     pub(crate) asked: Option<u64>,
 }
 
 impl<'s, L: DeskName, W: Wait + Drop, D: Device + Drop> Server<'s, L, W, D> {
-    /// Returns the watch of the slot with this number, if there is one.
+    /// Returns the watch of the slot with this number, which ends a session's wait for changes once its client sends
+    /// something; none without watchers.
     pub(crate) fn watch(&self, number: usize) -> Option<Watch<'s>> {
         match self.watchers {
             Some(watchers) => Some(watchers.watch(number)),

@@ -17,7 +17,7 @@ use std::sync::atomic::{AtomicBool, Ordering};
 use std::thread::{Promise, PromisedHandle, Scope, Threads};
 use std::time::Clock;
 
-/// The promise that a session gives its pass back, as its lines left this one.
+/// The promise that a session's thread returns the pass that its lines have made of this one.
 #[derive(Drop)]
 struct ComesBack<L: DeskName>(Snapshot<Pass<L>>);
 
@@ -30,15 +30,15 @@ impl<L: DeskName> Promise<Pass<L>> for ComesBack<L> {
 /// The holder of a slot's pass: the thread of a session, or the slot itself while it is free.
 type Holder<L> = Result<PromisedHandle<Pass<L>, ComesBack<L>>, Pass<L>>;
 
-/// The flag by which the session of a slot shows that it is over, so that nobody has to wait for it. Each slot has its
-/// own.
+/// A flag of one slot, which the slot's session raises at its end. By it the main thread knows that it can take the
+/// pass back without waiting.
 #[derive(Clone, Copy)]
 pub(crate) struct EndFlag<'s> {
     is_over: &'s AtomicBool,
 }
 
 impl<'s> EndFlag<'s> {
-    /// Returns the flag that is stored here.
+    /// Returns the flag that `is_over` stores.
     pub(crate) fn new(is_over: &'s AtomicBool) -> EndFlag<'s> {
         EndFlag { is_over }
     }
@@ -56,9 +56,9 @@ impl<'s> EndFlag<'s> {
     }
 }
 
-/// A slot for sessions: it holds its pass, or a session has it in a thread of its own.
+/// A slot for one session at a time. The slot has its pass while it is free; otherwise the session's thread has it.
 ///
-/// A contract sees it as the pass that it began with, and the number of sessions that were begun.
+/// Contracts see the pass that the slot began with, and the number of sessions that it has begun.
 #[derive(Drop)]
 pub(crate) struct Slot<'s, L: DeskName> {
     first: Snapshot<Pass<L>>,
@@ -67,7 +67,7 @@ pub(crate) struct Slot<'s, L: DeskName> {
     number: usize,
     /// a second handle to the connection of the last session, if it may have to be closed
     closing_handle: Option<TcpStream>,
-    /// out while it changes
+    /// none only while it is replaced
     state: Option<Holder<L>>,
 }
 
@@ -89,7 +89,7 @@ impl<'s, L: DeskName> Model for Slot<'s, L> {
 }
 
 impl<'s, L: DeskName> Slot<'s, L> {
-    /// Creates a slot with this number, which no session has had.
+    /// Creates a free slot with this number and pass, which has had no session.
     pub(crate) fn new(pass: Pass<L>, flag: EndFlag<'s>, number: usize) -> Slot<'s, L>
         ensures { result ≡ record { first = pass; begun = 0 } }
     {
@@ -103,14 +103,14 @@ impl<'s, L: DeskName> Slot<'s, L> {
         }
     }
 
-    /// Returns the number of sessions that were begun.
+    /// Returns the number of sessions that the slot has begun.
     pub(crate) fn begun(&self) -> u64
         ensures { result ≡ self.now.begun }
     {
         self.begun
     }
 
-    /// Returns whether no session has the slot.
+    /// Returns whether the slot can begin a session: it has its pass, and can count one more.
     fn is_free(&self) -> bool
         ensures { result ≡ true → self.now.begun + 1 < 2 ^ 64 }
     {
@@ -151,8 +151,8 @@ impl<'s, L: DeskName> Slot<'s, L> {
         given_back(rt, state.unwrap())
     }
 
-    /// Takes the pass back, if the session that has it is over. If the slot is free, it gives it to the connection that
-    /// waits first.
+    /// Takes the pass back, if the session that has it is over. If the slot is free then, begins a session over the
+    /// connection that has waited longest, if any waits.
     pub(crate) fn turn<
         E,
         W: Wait + Drop + Send + 's,
@@ -171,7 +171,7 @@ impl<'s, L: DeskName> Slot<'s, L> {
         }
     }
 
-    /// Begins a session over a connection.
+    /// Begins a session in the slot, over a connection.
     fn begin<
         E,
         W: Wait + Drop + Send + 's,
@@ -199,7 +199,8 @@ impl<'s, L: DeskName> Slot<'s, L> {
     }
 }
 
-/// Begins a session over a connection, in a thread of its own. If none can be started, the session is run here.
+/// Begins a session over a connection, in a thread of its own, and returns the pass's new holder. If no thread can be
+/// started, this one runs the session to its end.
 fn begin<
     's,
     E,
@@ -245,7 +246,7 @@ fn begin<
     }
 }
 
-/// Returns the pass, once the session that has it is over.
+/// Returns the pass. If a session has it, waits for the session's end.
 fn given_back<L: DeskName, R: Threads>(rt: &R, holder: Holder<L>) -> Pass<L>
     ensures { MatchResult holder
         (λ h. IsAttended L.replica L.opening h.promise.0.value result)

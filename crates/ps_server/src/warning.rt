@@ -1,14 +1,15 @@
 //! Warnings of a server that goes on.
 
-/// An observer of what goes wrong at a server that goes on. It is called again and again while a cause lasts, so a
-/// warner that has warned of it does nothing.
+/// Warns of what goes wrong while a server goes on. The server calls it again and again while a cause lasts. So an
+/// implementation that has warned of a cause does nothing.
 pub trait Warn {
-    /// Warns that the replica of a kept sheet makes changes elsewhere, too.
+    /// Warns that a session was pushed changes of the sheet's own replica that the sheet lacked. The replica makes
+    /// changes elsewhere, too, or the sheet's file has lost some.
     ///
     /// Cost: that of the device that it writes to.
     fn warn(&mut self);
 
-    /// Warns that no connection can be accepted for now.
+    /// Warns that the system has no file or no memory for one more connection, for now.
     ///
     /// Cost: that of the device that it writes to.
     fn warn_of_crowd(&mut self);

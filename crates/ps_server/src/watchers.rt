@@ -1,4 +1,8 @@
-//! The two threads by which a server waits: one sleeps until a connection says something, one until there are changes.
+//! Two threads that wait for input and for changes, for all sessions and followers of a server.
+//!
+//! The listening thread sleeps until a watched connection has input: that of a follower (a browser with a WebSocket for
+//! the news), or that of a session that waits for changes. The telling thread sleeps until there are changes. Then the
+//! listening thread sends their number to each follower.
 
 use crate::shared::SharedState;
 use mio::unix::SourceFd;
@@ -19,16 +23,16 @@ use std::time::{Clock, Duration};
 /// The most browsers that may follow the changes at a time.
 const MOST_FOLLOWERS: u64 = 512;
 
-/// The most connections that are reported at a time.
+/// The most connections that the system reports to the listening thread at a time.
 const MOST_EVENTS: usize = 256;
 
-/// The number under which others end a sleep of the listening thread. Slots and followers have lower ones.
+/// The number of the event by which other threads wake the listening thread. Slots and followers have lower numbers.
 const CALL: usize = usize::MAX;
 
 /// How long the telling thread sleeps at most while nothing changes, in seconds.
 const LONGEST: u64 = 86_400;
 
-/// A browser that follows the changes from now on.
+/// A browser that asked to follow the changes, and that the listening thread doesn't know yet.
 #[derive(Drop)]
 struct Newcomer {
     stream: TcpStream,
@@ -36,14 +40,14 @@ struct Newcomer {
     version: u64,
 }
 
-/// What the listening thread sleeps on.
+/// The poll in which the listening thread sleeps.
 #[derive(Drop)]
 pub(crate) struct Ears {
     poll: Poll,
     events: Events<Global>,
 }
 
-/// What the two threads and the others of a server share.
+/// What the listening and the telling thread share with the other threads of a server.
 #[derive(Drop)]
 pub(crate) struct Watchers {
     lookout: Lookout,
@@ -57,9 +61,9 @@ pub(crate) struct Watchers {
     newcomers: Mutex<Vec<Newcomer>>,
     /// how many browsers follow the changes
     followers: AtomicU64,
-    /// the number of changes that followers have to know
+    /// the number of changes to report to followers
     told: AtomicU64,
-    /// whether changes are reported to followers
+    /// whether changes are reported to followers; false once a sync failed, or at the close
     tells: AtomicBool,
     is_closed: AtomicBool,
 }
@@ -68,8 +72,8 @@ pub(crate) struct Watchers {
 type Followers = Vec<Option<NewsSocket>>;
 
 impl Watchers {
-    /// Creates what the threads share, and what the listening one sleeps on; none where the system or the memory
-    /// doesn't allow it.
+    /// Creates what the threads share, and the poll of the listening thread. `slots` is the number of session slots.
+    /// Returns none if the system refuses, or when out of memory.
     pub(crate) fn open<R: Net>(rt: &R, alloc: Global, slots: usize) -> Option<(Watchers, Ears)> {
         let poll = Poll::new(rt).ok()?;
         let events = Events::with_capacity(alloc, MOST_EVENTS).ok()?;
@@ -91,7 +95,7 @@ impl Watchers {
         Some((watchers, Ears { poll, events }))
     }
 
-    /// Returns the watch of the slot with this number.
+    /// Returns the watch of the slot with this number, which ends a session's wait once its client sends something.
     pub(crate) fn watch(&self, number: usize) -> Watch<'_> {
         Watch {
             lookout: &self.lookout,
@@ -104,9 +108,10 @@ impl Watchers {
         self.tells.load(Ordering::SeqCst) && self.followers.load(Ordering::SeqCst) < MOST_FOLLOWERS
     }
 
-    /// Lets a browser follow the changes, and has it told how many there are. It is turned away if too many do.
+    /// Makes a browser a follower, which is sent the number of changes. With a keeper, these changes are made durable
+    /// first.
     ///
-    /// If the sessions have a keeper, these changes are kept first.
+    /// The browser is turned away if too many follow already, if changes are no longer reported, or if a sync fails.
     pub(crate) fn join<L: DeskName, W: Wait + Drop, D: Device + Drop, R: Wait + Clock>(
         &self,
         resources: Resources<'_, R>,
@@ -132,7 +137,7 @@ impl Watchers {
         self.call();
     }
 
-    /// Ends both threads. Nobody follows the changes any more.
+    /// Has both threads end, and closes the sockets of all followers.
     pub(crate) fn close<L: DeskName, W: Wait + Drop, R: Wait>(&self, rt: &R, desk: &Desk<L, W>) {
         self.is_closed.store(true, Ordering::SeqCst);
         self.tells.store(false, Ordering::SeqCst);
@@ -140,7 +145,7 @@ impl Watchers {
         self.call();
     }
 
-    /// Ends the sleeps of both threads.
+    /// Wakes the listening thread, and the telling thread if that sleeps as it has no followers.
     fn call(&self) {
         self.parker.unpark();
         let _ = self.waker.wake();
@@ -155,7 +160,8 @@ impl Watchers {
         self.followers.fetch_sub(1, Ordering::SeqCst);
     }
 
-    /// Raises the alarm of the slot with this number, or skips what the follower with it has sent.
+    /// Handles input of a connection, by the number of its event. For a slot, raises the alarm that ends its session's
+    /// wait. For a follower, skips the input, and closes the socket if the browser has left.
     fn heed<L: DeskName, W: Wait + Drop, R: Wait>(
         &self,
         rt: &R,
@@ -181,7 +187,7 @@ impl Watchers {
         }
     }
 
-    /// Closes the socket of a follower.
+    /// Closes the socket of a follower, if it has one, and frees the entry.
     fn let_go(&self, follower: &mut Option<NewsSocket>) {
         if let Some(socket) = follower.take() {
             socket.leave();
@@ -189,7 +195,8 @@ impl Watchers {
         }
     }
 
-    /// Tells each follower how many changes there are, and lets go those that can't be told.
+    /// Sends each follower the number of changes, and closes the sockets on which that fails. If changes are no longer
+    /// reported, closes all.
     fn tell_all(&self, followers: &mut Followers) {
         let version = self.told.load(Ordering::SeqCst);
         let tells = self.tells.load(Ordering::SeqCst);
@@ -223,7 +230,7 @@ impl Watchers {
         }
     }
 
-    /// Makes a newcomer a follower, and tells it how many changes there are.
+    /// Makes a newcomer a follower, and sends it the number of changes. Closes its socket if that fails.
     fn follow(
         &self,
         alloc: Global,
@@ -247,7 +254,7 @@ impl Watchers {
     }
 }
 
-/// Has what a follower says reported under this number, and returns whether that could be.
+/// Has input of a follower wake the listening thread, with this number, and returns whether the system allows it.
 fn is_heard(registry: &Registry, socket: &NewsSocket, number: usize) -> bool {
     let file = socket.connection().as_raw_fd();
     let mut source = SourceFd(&file);
@@ -256,7 +263,7 @@ fn is_heard(registry: &Registry, socket: &NewsSocket, number: usize) -> bool {
         .is_ok()
 }
 
-/// Returns a place that no follower has, a new one if need be; none when out of memory.
+/// Returns the index of an entry without a follower, of a new one if need be; none when out of memory.
 fn free_place(followers: &mut Followers) -> Option<usize> {
     let mut place = 0;
     for follower in followers.iter() {
@@ -269,7 +276,8 @@ fn free_place(followers: &mut Followers) -> Option<usize> {
     Some(place)
 }
 
-/// Starts the two threads, and returns what they share; none if the listening one can't be started.
+/// Starts the two threads, and returns what they share; none if the listening thread can't be started. Without the
+/// telling thread no changes are reported.
 pub(crate) fn start<
     's,
     E,
@@ -305,7 +313,8 @@ pub(crate) fn start<
     Some(watchers)
 }
 
-/// Sleeps until a connection says something or somebody calls, and does what is due then, up to the close.
+/// Runs the listening thread until the close. After each sleep it handles the input that came, takes in newcomers, and
+/// sends followers the number of changes.
 fn listen<L: DeskName, W: Wait + Drop, R: Wait>(
     resources: Resources<'_, R>,
     desk: &Desk<L, W>,
@@ -334,9 +343,10 @@ fn listen<L: DeskName, W: Wait + Drop, R: Wait>(
     }
 }
 
-/// Sleeps until there are more changes and somebody follows them, and has them told, up to the close.
+/// Runs the telling thread until the close. It sleeps until there are followers and more changes, and then wakes the
+/// listening thread to report these.
 ///
-/// If the sessions have a keeper, each change is kept first.
+/// With a keeper, changes are made durable before they are reported. If that fails, none are reported any more.
 fn tell<L: DeskName, W: Wait + Drop, D: Device + Drop, R: Wait + Clock>(
     resources: Resources<'_, R>,
     desk: &Desk<L, W>,

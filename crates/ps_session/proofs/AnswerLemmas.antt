@@ -1,4 +1,4 @@
--- What a sheet answers by the calls of a board is what a sheet answers a line.
+-- What a sheet answers as a board is what it answers to a line.
 use Rattle.std.proofs.Common.{◌≡◌, ◌≢◌, ◌⊎◌, ◌<◌, ◌≤◌, ◌++◌, ◌∷◌, [], ◌∙◌, inl, inr, refl, ap, subst, arith}
 use Rattle.std.proofs.Common.{ℕ, List, length, max, Result, Ok, Err}
 use Rattle.std.specs.Prelude.{◌↔◌, IfErr, IfOk, IsOkAnd, drop, take, unwrap_or}

@@ -30,7 +30,7 @@ use Rattle.ps_lines.specs.declared.verb.Verb.TheVariants.{Pull, Push, Replica, R
 use Rattle.ps_session.proofs.EditLineLemmas.{add_passes, batch_passes, choose_passes, sub_passes, unchoose_passes}
 use Rattle.ps_session.proofs.EntryLemmas.{content_read}
 
--- a line asks for an edit of one cell of the grid, with a content that there is
+-- a line asks for an edit of one cell of the grid, with a valid content
 abbrev pub EditsCell : Edit → Type 0
 EditsCell (edits.Set c content) = (c < CELLS) × IsContent content
 EditsCell (edits.SetAll cells) = ⊥

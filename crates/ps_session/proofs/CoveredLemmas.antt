@@ -1,4 +1,4 @@
--- What is kept where replies were handed on, at each end of a session.
+-- What is kept when replies were sent, at each end of a session.
 use Rattle.std.proofs.Common.{◌≡◌, ◌⊎◌, ℕ, List, [], ◌∷◌, ◌++◌, Option, Some, None}
 use Rattle.std.proofs.Common.{inl, inr, refl, sym, ap, ◌∙◌, subst, arith, append_assoc, append-nil, flat_map}
 use Rattle.std.specs.Io.KnownBytes.{Appends, Keeps}
@@ -75,7 +75,7 @@ known_end P Q bytes lines known first = record { after = first.after; whole = go
     go (inl is) = inl is
     go (inr is) = inr (known is.0, is.1)
 
--- ---- what was handed on
+-- ---- what was sent
 
 -- all of it or a part
 handed_all : (written contents : Option (List ℕ)) (text waiting : List ℕ) → Appends written contents text
@@ -195,7 +195,7 @@ module _ {State : Type 0} (Line : Answering State) (ended : Type 0) (first : Sta
       handed = handed_all written after t.text waiting (Appends-keeps written contents after t.text t.sent same);
     }
 
-    -- it covers what was there at the last sync
+    -- it covers the board as it was at the last sync
     module _ (base : ℕ) (read : List ℕ) (middle : State) (pending put : Option (List ℕ)) (answered : ℕ)
         (covered : covers middle) (s : Stands Line first written base read middle pending put answered)
         (last : State) (contents : Option (List ℕ)) (held : HoldsBack put contents [] waiting) where

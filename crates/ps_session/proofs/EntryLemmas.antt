@@ -1,4 +1,4 @@
--- An entry is read as a content that there is.
+-- An entry is read as a valid content.
 use Rattle.std.proofs.Common.{◌≡◌, refl, sym, subst, ℕ, ℤ, Bool, true, false, List, Ok}
 use Rattle.std.specs.Prelude.{FitsSigned, if◌then◌else◌}
 use Rattle.std.specs.Int.{w64}
@@ -51,7 +51,7 @@ same_content : (content other : Content) → IsContent other → ◌≡◌ {A = 
     → IsContent content
 same_content content other is read = let same : other ≡ content = cc in subst IsContent same is
 
--- an entry is read as a content that there is
+-- an entry is read as a valid content
 read_by : (kind : Kind) (bytes : List ℕ) (content : Content) → kind_of bytes ≡ kind
     → Reads kind bytes (Ok content) → IsContent content
 read_by too_long bytes content is reads = absurd cc

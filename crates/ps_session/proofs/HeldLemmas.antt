@@ -5,7 +5,7 @@ use Rattle.std.specs.Io.KnownBytes.{Appends, Keeps, WriteAppends, append_known}
 use Rattle.std.proofs.lemmas.List.{drop-append-le}
 use Rattle.ps_device.specs.Device.{HoldsBack, Sends}
 
--- these bytes wait in the room, of which `sent` were handed on; what is below is the same
+-- these bytes wait in the buffer, after `sent` others that the sink below has already; that sink is the same
 module _ (known : Option (List ℕ)) (below : List ℕ) (sent : ℕ) (old new : List ℕ) (within : sent ≤ length old) where
   more_waits : (taken : List ℕ) → new ≡ old ++ taken → drop sent new ≡ drop sent old ++ taken
   more_waits taken is = ap (drop sent) is ∙ drop-append-le sent old taken within

@@ -59,7 +59,7 @@ replied_line Answers old new (b ∷ bs) reply contents after answered counted (O
 replied_line Answers old new (b ∷ bs) reply contents after answered counted (Err e) some answers sent counts =
     (reply, sent.0, answers, sent.1, sent.2)
 
--- what a line asks for was done, which is what the line is answered, and its reply told
+-- a line was carried out, which is its answer, and its reply was put
 pub told_by : {State E : Type 0} (calls : Calls State) (Answers : Answering State)
     (law : (x y : State) (line text : List ℕ) → BoardAnswers calls x line text y → Answers x line text y)
     (old new : State) (line reply : List ℕ) (asked : Read Command)

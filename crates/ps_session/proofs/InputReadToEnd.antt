@@ -111,7 +111,7 @@ module _ {State : Type 0} (Handles : Answering State) (first : State) (written :
     stands_answered board pending contents answered s =
         record { lines = s.lines; rest = s.rest; text = s.text; split = s.split; run = s.run; sent = s.sent }
 
-    -- what was put was handed on
+    -- what was put was sent
     pub stands_flushed : (board : State) (pending contents after : Option (List ℕ)) (answered : ℕ)
         → Keeps contents after
         → Stands Handles first written base read board pending contents answered

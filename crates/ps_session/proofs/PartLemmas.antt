@@ -120,7 +120,7 @@ breaks_ended Line holds Q first written read last contents (inr (inl all)) = inl
 breaks_ended Line holds Q first written read last contents (inr (inr part)) =
     inr (part.0, halted_ended Line ⊥ Q (λ no_end. absurd no_end) first written read last contents part.1)
 
--- nothing is read yet; what waited before may have been handed on
+-- nothing is read yet; what waited before may have been sent
 pub stands_begun : {State : Type 0} (Line : Answering State) (board : State) (pending contents after : Option (List ℕ))
     (answered : ℕ) → pending ≡ Some [] → answered ≡ 0 → Keeps contents after
     → Stands Line board contents 0 [] board pending after answered

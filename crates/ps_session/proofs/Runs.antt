@@ -1,6 +1,6 @@
--- What the lines of a session do to what answers them, for any relation: where it is reflexive and transitive, and each
--- answered line keeps it, it holds from what was there before the session to what is there after it, whatever the
--- session came to. A caller of `talk` or `converse` gives `talked` or `conversed` the five clauses of what it returned.
+-- What the lines of a session do to a board, for any relation that is reflexive and transitive. If each answered line
+-- keeps the relation, it holds between the board before the session and the board after it, whatever the outcome. A
+-- caller of `talk` or `converse` gives `talked` or `conversed` the five clauses of what it returned.
 use Rattle.std.proofs.Common.{◌≡◌, ◌≢◌, ◌⊎◌, inl, inr, refl, ℕ, Bool, true, false, List, [], ◌∷◌, Option, length}
 use Rattle.std.proofs.Common.{nat_le}
 use Rattle.std.proofs.Common.{Result, Ok, Err}
@@ -63,7 +63,7 @@ module _ {State : Type 0} (Q : State → State → Type 0) (same : (x : State) �
         → Q first last
     halted read ended t = all_lines first last _ _ t.run
 
-    -- .. whatever a session came to that has nothing kept
+    -- .. whatever the outcome of a session without a keeper
     pub talked : (Read : List ℕ → Type 0) (ended source sink : Type 0) (result : Result ℕ RunFault)
         → IfOk result (λ answered. (read : List ℕ) × Read read × ended
         × Transcribed (Lines Answers) first written read last contents answered)
@@ -80,7 +80,7 @@ module _ {State : Type 0} (Q : State → State → Type 0) (same : (x : State) �
     talked Read ended source sink (Err faults.Keep) all cut some kept none = absurd (kept refl)
     talked Read ended source sink (Err faults.Memory) all cut some kept none = unchanged first last (none refl).2
 
-    -- .. and one that has a keeper
+    -- .. and of one with a keeper
     pub conversed : (Read : List ℕ → Type 0) (ended holds can_fail source sink keeper : Type 0)
         (result : Result ℕ RunFault)
         → IfOk result (λ answered. (read : List ℕ) × Read read × ended

@@ -1,5 +1,5 @@
--- What a sheet answers to a line. The replica and the history, which is the deltas that the replica has accepted,
--- decide it; what the sheet shows follows from them.
+-- What a sheet answers to a line. The replica, and the history of deltas that it has accepted, decide the answer. What
+-- the sheet shows follows from them.
 use Rattle.std.specs.Prelude.{◌≡◌, ◌≢◌, ◌⊎◌, ◌<◌, ◌++◌, ◌∷◌, [], ℕ, List, length, ⊤}
 use Rattle.std.specs.Prelude.{Result, Ok, Err, IsOk, unwrap_or}
 use Rattle.ps_grid.specs.declared.refusal.Refusal.{Refusal}
@@ -22,13 +22,13 @@ use Rattle.ps_lines.specs.declared.command.Command.{Command}
 use Rattle.ps_lines.specs.declared.command.Command.TheVariants.{Edit, Entries as AllEntries, Entry, Get, Merge}
 use Rattle.ps_lines.specs.declared.command.Command.TheVariants.{Pull, Push, Replica, Rows, Wait}
 
--- what was made of an edit: its delta ends the history, and the reply is the new version; or it is refused
+-- the outcome of an edit: the history ends with its delta, and the reply is the new version; or it is refused
 abbrev pub Edited : Result Entries Refusal → List Entries → List ℕ → List Entries → Type 0
 Edited (Ok delta) history text next = (next ≡ history ++ delta ∷ []) × (text ≡ done_text (length next))
 Edited (Err refusal) history text next = (next ≡ history) × (text ≡ refusal_text refusal)
 
--- the outcome of a merged delta: its news ends the history, and the reply is the new version; or it has none, and the
--- reply says that all is the same
+-- the outcome of a merged delta: the history ends with its news (its new parts), and the reply is the new version. Or
+-- it has none, and the reply says that all is the same
 abbrev pub IsMerged : Entries → List Entries → List ℕ → List Entries → Type 0
 IsMerged delta history text next =
     ((news : Entries) × IsNewsDelta (joined_history history) delta news × (next ≡ history ++ news ∷ [])
@@ -56,7 +56,7 @@ Obeys replica history (Ok (Replica named)) text next = (next ≡ history) × (te
 Obeys replica history (Ok (Wait seen)) text next = (next ≡ history) × (text ≡ version_text (length history))
 Obeys replica history (Err refusal) text next = (next ≡ history) × (text ≡ refusal_text refusal)
 
--- a line does what it asks for
+-- a line is carried out: the reply and the sheet are as its command asks
 pub record Serves (old : SheetView) (line text : List ℕ) (new : SheetView) : Type 0 where
   pub asked : Read Command
   pub reads : ReadsLine line asked
@@ -64,8 +64,9 @@ pub record Serves (old : SheetView) (line text : List ℕ) (new : SheetView) : T
   pub obeys : Obeys old.replica old.history asked text new.history
   pub replica : new.replica ≡ old.replica
 
--- the command takes memory, at a replica with a history: an edit if its delta is made, a table, an entry, a delta that
--- is returned or taken in; never a look at a cell, at the version or at the replica, and no edit that is refused
+-- the command takes memory, at a replica with a history: an edit whose delta is made, a table, an entry, a delta that
+-- is returned or taken in. A read of a cell, of the version or of the replica takes none, and neither does an edit that
+-- is refused
 abbrev pub TakesMemory : ℕ → List Entries → Read Command → Type 0
 TakesMemory replica history (Ok (Edit edit)) = IsOk (delta_of_edit replica (joined_history history) edit)
 TakesMemory replica history (Ok (Get cell)) = ⊥
@@ -79,7 +80,7 @@ TakesMemory replica history (Ok (Replica named)) = ⊥
 TakesMemory replica history (Ok (Wait seen)) = ⊥
 TakesMemory replica history (Err refusal) = refusal ≡ refusals.Memory
 
--- out of memory, a line does nothing: memory was taken to read it, or by its command
+-- out of memory, a line changes nothing: memory was needed to read it, or by its command
 pub record LacksMemory (old : SheetView) (line text : List ℕ) (new : SheetView) : Type 0 where
   pub asked : Read Command
   pub reads : ReadsLine line asked
@@ -92,10 +93,10 @@ pub record LacksMemory (old : SheetView) (line text : List ℕ) (new : SheetView
 abbrev pub Answers : Answering SheetView
 Answers old line text new = Serves old line text new ⊎ LacksMemory old line text new
 
--- .. and a line as it stands between line feeds
+-- .. to a line as it stands between line feeds
 abbrev pub SheetLines : Answering SheetView
 SheetLines = Lines Answers
 
--- .. where no reply is out of memory
+-- .. if no reply is out of memory
 abbrev pub AmpleLines : Answering SheetView
 AmpleLines = Lines Serves

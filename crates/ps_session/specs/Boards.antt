@@ -1,4 +1,4 @@
--- What a board answers to a command and to a line, made of what its calls answer.
+-- What a board answers to a command and to a line, made from what its methods answer.
 use Rattle.std.specs.Prelude.{◌≡◌, ℕ, List, max, Ok, Err, unwrap_or}
 use Rattle.ps_grid.specs.Rectangle.{Area, spanned}
 use Rattle.ps_value.specs.declared.value.Value.{Value}
@@ -14,27 +14,28 @@ use Rattle.ps_session.specs.declared.board.Merged.TheVariants.{Known, New}
 use Rattle.ps_lines.specs.declared.command.Command.TheVariants.{Edit, Entries as AllEntries, Entry, Get, Merge}
 use Rattle.ps_lines.specs.declared.command.Command.TheVariants.{Pull, Push, Replica, Rows, Wait}
 
--- what the calls of a board answer, or why they refuse: the state before, the question, the answer, the state after
+-- what the methods of a board answer, or why they refuse: the state before, the question, the answer, the state after
 pub record Calls (State : Type 0) : Type 1 where
-  -- an edit is made: the number of its delta
+  -- an edit: the number of its change
   pub edits : State → SheetEdit → Read ℕ → State → Type 0
-  -- a delta made elsewhere is taken in: its number, or that of the last one
+  -- a delta made elsewhere, taken in: the number of its change, or of the last one if the delta changes nothing
   pub receives : State → Entries → Read ℕ → State → Type 0
-  -- what is new of a delta made elsewhere is taken in: its number, or that of the last one where nothing was
+  -- the new parts of a delta made elsewhere, taken in: the number of their change, or of the last one if nothing was
+  -- new
   pub merges : State → Entries → Read Merged → State → Type 0
-  -- a cell is looked at: its value
+  -- what a cell shows: its value
   pub shows : State → ℕ → Read Value → State → Type 0
-  -- a rectangle is looked at: the text of its values as a table
+  -- what a rectangle shows: the text of its values as a table
   pub tables : State → Area → Read (List ℕ) → State → Type 0
-  -- a cell is asked for what it holds: its entry
+  -- what a cell holds: its entry
   pub holds : State → ℕ → Read (List ℕ) → State → Type 0
-  -- a rectangle is asked for what it holds: the text of its entries as a table
+  -- what a rectangle holds: the text of its entries as a table
   pub lists : State → Area → Read (List ℕ) → State → Type 0
-  -- the deltas after a number, at most so many
+  -- the deltas after a number, at most this many
   pub pulls : State → ℕ → ℕ → Read (List Entries) → State → Type 0
-  -- more changes than a number are waited for: how many there are, and never a refusal
+  -- a wait for more changes than a number: how many there are then, and never a refusal
   pub waits : State → ℕ → ℕ → State → Type 0
-  -- the own replica is asked for: its number, and never a refusal
+  -- the board's own replica: its number, and never a refusal
   pub replica : State → ℕ → State → Type 0
 
 -- the reply to a merge is `ok` if something was new, and else `same`
@@ -47,12 +48,12 @@ abbrev pub told : {X : Type 0} → (X → List ℕ) → Read X → List ℕ
 told text (Ok answer) = text answer
 told text (Err refusal) = refusal_text refusal
 
--- a call answered, and the reply has its answer
+-- a method gave an answer, and the reply has it
 abbrev pub TellsAnswer : {X : Type 0} → (Read X → Type 0) → (X → List ℕ) → List ℕ → Type 0
 TellsAnswer {X} Call text reply = (answer : Read X) × Call answer × (reply ≡ told text answer)
 
--- what a board does where a line asks for this: the reply, and the board afterwards. A pull asks for one delta at
--- least, so that there is none only at the end
+-- what a board does if a line asks for this: the reply, and the board afterwards. A pull asks for at least one delta,
+-- so that no delta comes back only at the end
 abbrev pub Obeyed : {State : Type 0} → Calls State → State → Read Command → List ℕ → State → Type 0
 Obeyed calls old (Ok (Edit edit)) reply new = TellsAnswer (λ answer. calls.edits old edit answer new) done_text reply
 Obeyed calls old (Ok (Get cell)) reply new = TellsAnswer (λ answer. calls.shows old cell answer new) value_text reply
@@ -74,7 +75,7 @@ Obeyed calls old (Ok (Wait seen)) reply new =
     (number : ℕ) × calls.waits old seen number new × (reply ≡ version_text number)
 Obeyed calls old (Err refusal) reply new = (new ≡ old) × (reply ≡ refusal_text refusal)
 
--- ANSWER: what a board with these calls answers a line that isn't empty, and the board afterwards
+-- ANSWER: the reply of a board with these methods to a line that isn't empty, and the board afterwards
 pub record BoardAnswers {State : Type 0} (calls : Calls State) (old : State) (line reply : List ℕ) (new : State) :
     Type 0 where
   pub asked : Read Command

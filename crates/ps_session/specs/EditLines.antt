@@ -22,14 +22,15 @@ named_count (Sub c amount) = 1
 named_count (Choose c option) = 1
 named_count (Unchoose c option) = 1
 
--- LAW: whatever the replica and the state, the line of what an edit makes is never too long: of each edit of one cell,
--- and of each batch of at most as many cells as a row has
+-- LAW: whatever the replica and the state, the line of the delta that an edit makes is never too long. This holds for
+-- each edit of one cell, and for each batch of at most as many cells as a row has
 abbrev pub EditLinesFit : Type 0
 EditLinesFit =
     (replica : ℕ) (s : State) (edit : Edit) (delta : Entries) → named_count edit ≤ COLUMNS
     → delta_of_edit replica s edit ≡ Ok delta → IsLawful delta → FitsLine delta
 
--- the edit names cells of the grid, and gives them contents that there are; a batch names some, ascending and distinct
+-- the edit names cells of the grid, and gives them valid contents; the cells of a batch are ascending and distinct, and
+-- there is at least one
 abbrev pub IsEdit : Edit → Type 0
 IsEdit (Set c content) = (c < CELLS) × IsContent content
 IsEdit (SetAll cells) = IsBatch cells × All (λ e. (e.0 < CELLS) × IsContent e.1) cells
@@ -38,7 +39,7 @@ IsEdit (Sub c amount) = c < CELLS
 IsEdit (Choose c option) = c < CELLS
 IsEdit (Unchoose c option) = c < CELLS
 
--- LAW: what an edit at a replica makes over a history of deltas in range is in range too
+-- LAW: over a history of deltas in range, an edit at a replica makes a delta in range
 abbrev pub EditsAreLawful : Type 0
 EditsAreLawful =
     (replica : ℕ) (history : List Entries) (edit : Edit) (delta : Entries) → 1 ≤ replica → replica ≤ REPLICAS

@@ -9,7 +9,7 @@ use Rattle.ps_lines.specs.PullReplies.{HasLine}
 use Rattle.ps_lines.specs.Feeding.{HasNoFeed}
 use Rattle.ps_lines.specs.Streams.{Answering, Run, stream_of}
 
--- these are the first lines of the bytes; where the input has ended, the last of all may lack its line feed
+-- these are the first lines of the bytes; if the input has ended, the last of all may lack its line feed
 pub record AreFirstLines (ended : Type 0) (bytes : List ℕ) (lines : List (List ℕ)) : Type 0 where
   pub after : List ℕ
   pub whole : (bytes ≡ stream_of lines after) ⊎ (ended × (bytes ++ 10 ∷ [] ≡ stream_of lines []))
@@ -24,7 +24,7 @@ pub record Halted {State : Type 0} (Line : Answering State) (ended : Type 0) (fi
   pub run : Run Line first lines text last
   pub sent : Appends written contents text
 
--- what was sent, which is what was put without what waits, is a beginning of the earlier bytes and the text
+-- what was sent (all that was put, without what waits) is a beginning of the earlier bytes and the text
 abbrev pub HandsOnly : Option (List ℕ) → List ℕ → Option (List ℕ) → List ℕ → Type 0
 HandsOnly written text contents waiting = (before all handed : List ℕ) → written ≡ Some before → contents ≡ Some all
     → all ≡ handed ++ waiting → (rest : List ℕ) × (handed ++ rest ≡ before ++ text)
@@ -46,7 +46,7 @@ pub record IsCovered {State : Type 0} (Line : Answering State) (covers : State �
   pub kept : covers state ⊎ (text ≡ [])
   pub handed : HandsOnly written text contents waiting
 
--- what fits what a board has fits what it has after a line as well
+-- what fits a board still fits it after a line
 abbrev pub StaysFit : {Keeper State : Type 0} → Answering State → (Keeper → State → Type 0) → Type 0
 StaysFit {Keeper} {State} Answers fits = (keeper : Keeper) (old new : State) (line text : List ℕ)
     → Answers old line text new → fits keeper old → fits keeper new
@@ -56,5 +56,5 @@ pub record IsLater (old new : SheetView) : Type 0 where
   pub replica : new.replica ≡ old.replica
   pub more : List Entries
   pub history : new.history ≡ old.history ++ more
-  -- where each delta of the history has a line, each of the later one has
+  -- if each delta of the history has a line, each of the later one has
   pub lines : 1 ≤ old.replica → old.replica ≤ REPLICAS → All HasLine old.history → All HasLine new.history

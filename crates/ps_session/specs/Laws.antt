@@ -4,12 +4,12 @@ use Rattle.ps_sheet.specs.Sheet.{IsSheet, SheetView}
 use Rattle.ps_session.specs.Answers.{AmpleLines}
 use Rattle.ps_session.specs.Transcript.{Transcribed}
 
--- two sheets have one replica and one history
+-- two sheets have the same replica and the same history
 pub record IsSameSheet (a b : SheetView) : Type 0 where
   pub replica : a.replica ≡ b.replica
   pub history : a.history ≡ b.history
 
--- LAW: where no reply is out of memory, the replica, the history and the bytes decide the replies and the history
+-- LAW: if no reply is out of memory, the replica, the history and the bytes decide the replies and the history
 -- afterwards
 abbrev pub TranscriptIsDecided : Type 0
 TranscriptIsDecided =

@@ -1,4 +1,4 @@
--- What a sheet answers the calls of a board. A refusal changes nothing.
+-- What a sheet answers as a board. A refusal changes nothing.
 use Rattle.std.specs.Prelude.{◌≡◌, ◌⊎◌, ◌<◌, ◌≤◌, ◌++◌, ◌∷◌, [], ℕ, List, length, take, drop, Ok, Err, IsOk, IsOkAnd}
 use Rattle.ps_grid.specs.Rectangle.{Area}
 use Rattle.ps_grid.specs.declared.refusal.Refusal.TheVariants as refusals
@@ -22,7 +22,7 @@ pub record Counts (old : SheetView) (n : ℕ) (new : SheetView) : Type 0 where
   pub number : n ≡ length new.history
   pub replica : new.replica ≡ old.replica
 
--- the delta of an edit ends the history; out of memory only where there is such a delta
+-- the history ends with the delta of the edit; it is out of memory only if there is such a delta
 abbrev pub SheetEdits : SheetView → Edit → Read ℕ → SheetView → Type 0
 SheetEdits old edit (Ok number) new =
     IsOkAnd (delta_of_edit old.replica (joined_history old.history) edit) (λ d. new.history ≡ old.history ++ d ∷ [])
@@ -32,12 +32,12 @@ SheetEdits old edit (Err refusal) new =
     ⊎ ((refusal ≡ refusals.Memory) × IsOk (delta_of_edit old.replica (joined_history old.history) edit)))
     × (new ≡ old)
 
--- the delta ends the history, or changes nothing
+-- the history ends with the delta, or the delta changes nothing
 abbrev pub SheetReceives : SheetView → Entries → Read ℕ → SheetView → Type 0
 SheetReceives old delta (Ok number) new = Takes delta old.history new.history × Counts old number new
 SheetReceives old delta (Err refusal) new = (refusal ≡ refusals.Memory) × (new ≡ old)
 
--- the news of the delta ends the history; or there is none, and the delta changes nothing
+-- the history ends with the news of the delta, its new parts; or there are none, and the delta changes nothing
 abbrev pub SheetMerges : SheetView → Entries → Read Merged → SheetView → Type 0
 SheetMerges old delta (Ok (New number)) new =
     ((news : Entries) × IsNewsDelta (joined_history old.history) delta news
@@ -68,7 +68,7 @@ abbrev pub SheetLists : SheetView → Area → Read (List ℕ) → SheetView →
 SheetLists old rect (Ok text) new = (text ≡ exported_entries (held_in old.history) rect) × (new ≡ old)
 SheetLists old rect (Err refusal) new = (refusal ≡ refusals.Memory) × (new ≡ old)
 
--- the deltas of the history after a number that isn't beyond its end; out of memory only where there is one
+-- the deltas of the history after a number that isn't beyond its end; it is out of memory only if there is one
 abbrev pub SheetPulls : SheetView → ℕ → ℕ → Read (List Entries) → SheetView → Type 0
 SheetPulls old from most (Ok deltas) new =
     (from ≤ length old.history) × (deltas ≡ take most (drop from old.history)) × (new ≡ old)
@@ -77,7 +77,7 @@ SheetPulls old from most (Err refusal) new =
     ⊎ ((refusal ≡ refusals.Memory) × (from < length old.history)))
     × (new ≡ old)
 
--- nothing is waited for: nobody else changes the sheet
+-- it doesn't wait: nobody else changes the sheet
 abbrev pub SheetWaits : SheetView → ℕ → ℕ → SheetView → Type 0
 SheetWaits old seen number new = (number ≡ length old.history) × (new ≡ old)
 

@@ -16,7 +16,7 @@ is_filled (b ∷ bs) = true
 abbrev pub has_reply : List ℕ → Bool
 has_reply raw = if nat_le (length raw) LINE_LIMIT then is_filled (without_return raw) else true
 
--- how many lines have a reply, or the greatest 64-bit number where there are more
+-- how many lines have a reply, or the greatest 64-bit number if there are more
 abbrev pub answered_count : List (List ℕ) → ℕ
 answered_count lines = min (count_by has_reply lines) (2 ^ 64 - 1)
 
@@ -43,7 +43,7 @@ pub record Answered {State : Type 0} (Line : Answering State) (first : State) (w
   pub run : Run Line first lines text last
   pub sent : Appends written contents text
 
--- the reply to one line was cut: all lines before it were answered, the state is the one after it
+-- the reply to one line was cut. All lines before it were answered, and the state is the one after that line
 pub record Cut {State : Type 0} (Line : Answering State) (ended : Type 0) (first : State) (written : Option (List ℕ))
     (read : List ℕ)
     (last : State) (contents : Option (List ℕ)) : Type 0 where
@@ -63,7 +63,7 @@ pub record Cut {State : Type 0} (Line : Answering State) (ended : Type 0) (first
   pub short : count < length reply
   pub sent : Appends written contents (text ++ take count reply)
 
--- the sink failed: the reply to one line was cut; or every line was answered, and what waits could not be sent
+-- the sink failed: the reply to one line was cut; or every line was answered, and what waits couldn't be sent
 abbrev pub Stopped : {State : Type 0} → Answering State → Type 0 → State → Option (List ℕ) → List ℕ → State
     → Option (List ℕ) → Type 0
 Stopped Line ended first written read last contents =

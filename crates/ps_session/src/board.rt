@@ -14,31 +14,33 @@ use std::thread::Threads;
 /// The outcome of a merged delta.
 #[derive(Clone, Copy, Debug, PartialEq, Eq)]
 pub enum Merged {
-    /// Something of the delta was new, and has this number; the reply is `ok`.
+    /// Something in the delta was new, and became the change with this number; the reply is `ok`.
     New(u64),
-    /// All of the delta was known, and this is the last number; the reply is `same`.
+    /// The board knew all of the delta, and its last change has this number; the reply is `same`.
     Known(u64),
 }
 
-/// What answers the commands of a session, by a call for each.
+/// Answers the commands of a session, with a method for each.
 ///
-/// The calls that change something count their evaluations on an `M`, and may start threads by `rt`. A refusal becomes
-/// the reply as it is, so a call is refused as out of memory only if it takes some.
+/// A board's changes are numbered from 1 on, in the order in which it made them or took them in.
+///
+/// The methods that change something count formula evaluations on a meter `M`, and may start threads through `rt`. A
+/// refusal becomes the reply unchanged. So a method may refuse as out of memory only if it takes memory.
 pub trait Board<M> {
-    /// What each call answers.
+    /// What each method answers.
     ghost calls: { Calls Self };
 
-    /// The reply to a line that isn't empty, and the board after it.
+    /// The reply to a line that isn't empty, and the board after the line.
     ghost answers: { Answering Self };
 
-    /// States that what the calls answer is the reply to a line. It does nothing.
+    /// Does nothing. Its contract states that the reply to a line is made from what the methods answer.
     fn calls_answer_lines()
         ensures { (old new : Self) (line text : List ℕ) → BoardAnswers calls old line text new
             → answers old line text new };
 
-    /// Makes an edit, and returns its number, for the reply `ok`.
+    /// Makes an edit, and returns the number of that change, for the reply `ok`.
     ///
-    /// Cost: that of the change, and of the other cells that show something else by it.
+    /// Cost: that of the change, and of the other cells whose shown values it changes.
     fn apply_edit<R: Threads + Sync>(
         &mut self,
         rt: &R,
@@ -49,15 +51,20 @@ pub trait Board<M> {
         requires shared { IsSync R.row }
         ensures edited { calls.edits self.old edit result self.new };
 
-    /// Returns whether the board has all parts of a delta that its own replica made. It has no contract, as no reply
-    /// depends on it.
+    /// Returns whether the board already has all changes in a delta that are marked with the board's own replica. If
+    /// not, the replica's number is used elsewhere too, or changes of this replica were lost.
     ///
-    /// Cost: the counts and the pairs of the delta, each with a walk over those of its cell.
+    /// A session asks before it takes the delta in, and reports a false to its watcher. No reply depends on it, so it
+    /// has no contract.
+    ///
+    /// Cost: for each count in the delta (of a counter), a pass over the counts of its cell here. For each pair in the
+    /// delta (of a set), a search among the pairs of its cell here.
     fn has_own(&self, delta: &Delta) -> bool;
 
-    /// Takes in a delta made elsewhere, and returns the number for the reply `ok`.
+    /// Takes in a delta made elsewhere, and returns a number for the reply `ok`. It is that of the new change, or of
+    /// the last one if the delta changes nothing.
     ///
-    /// Cost: that of the change, and of the other cells that show something else by it.
+    /// Cost: that of the change, and of the other cells whose shown values it changes.
     fn apply_delta<R: Threads + Sync>(
         &mut self,
         rt: &R,
@@ -68,9 +75,9 @@ pub trait Board<M> {
         requires shared { IsSync R.row }
         ensures received { calls.receives self.old delta result self.new };
 
-    /// Takes in only what is new of a delta made elsewhere.
+    /// Takes in the parts of a delta made elsewhere that are new to the board.
     ///
-    /// Cost: that of finding what is new, of the change, and of the other cells that show something else by it.
+    /// Cost: that of finding what is new, of the change, and of the other cells whose shown values it changes.
     fn apply_merge<R: Threads + Sync>(
         &mut self,
         rt: &R,
@@ -85,32 +92,32 @@ pub trait Board<M> {
     fn value(&mut self, cell: Cell) -> Result<Value, Refusal>
         ensures shown { calls.shows self.old cell result self.new };
 
-    /// Returns what the cells of a rectangle show, as the text of a table.
+    /// Returns what the cells of a rectangle show, as the text of a CSV table with a line for each row.
     ///
     /// Cost: the cells of the rectangle and the bytes of the text.
     fn table(&mut self, alloc: Global, rect: Rect) -> Result<Vec<u8>, Refusal>
         ensures shown { calls.tables self.old rect (with_part (λ text. text.items) result) self.new };
 
-    /// Returns the entry of a cell: what it holds.
+    /// Returns the entry of a cell: the text of what it holds, such as its formula.
     ///
     /// Cost: the bytes of the entry.
     fn entry(&mut self, alloc: Global, cell: Cell) -> Result<Vec<u8>, Refusal>
         ensures held { calls.holds self.old cell (with_part (λ text. text.items) result) self.new };
 
-    /// Returns the entries of the cells of a rectangle, as the text of a table.
+    /// Returns the entries of the cells of a rectangle, as the text of a CSV table with a line for each row.
     ///
     /// Cost: the cells of the rectangle and the bytes of the text.
     fn entries(&mut self, alloc: Global, rect: Rect) -> Result<Vec<u8>, Refusal>
         ensures held { calls.lists self.old rect (with_part (λ text. text.items) result) self.new };
 
-    /// Returns at most `most` deltas, in order, from the one after the first `from` on.
+    /// Returns at most `most` deltas of the board's history, in order, from the one after the first `from` on.
     ///
     /// Cost: the deltas that are returned.
     fn pull(&mut self, alloc: Global, from: u64, most: usize) -> Result<Vec<Delta>, Refusal>
         ensures pulled { calls.pulls self.old from most (with_part (λ deltas. deltas.items) result) self.new }
         ensures numbered { IfOk result (λ deltas. from + length deltas.items < 2 ^ 64) };
 
-    /// Waits until there are more changes than `seen`, or for some time, and returns how many there are.
+    /// Waits until the board has more changes than `seen`, or for some time, and returns how many it has.
     ///
     /// If the peer has sent more already (`is_last` is false), it returns at once.
     ///
@@ -118,7 +125,7 @@ pub trait Board<M> {
     fn wait(&mut self, seen: u64, is_last: bool) -> u64
         ensures waited { calls.waits self.old seen result self.new };
 
-    /// Returns the own replica, 1 to 32. Takes no memory.
+    /// Returns the number of the board's own replica, 1 to 32. Takes no memory.
     fn replica(&mut self) -> u8
         ensures told { calls.replica self.old result self.new };
 }

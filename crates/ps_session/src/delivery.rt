@@ -9,7 +9,7 @@ use ps_device::{Failed, Sink, hand_on};
 use ps_lines::{Reply, send};
 use std::sync::ledger::Ledger;
 
-/// A way to put replies on a sink of this type, and to send them.
+/// A way to put replies on a sink of type `K`, and to send them.
 pub trait Delivery<K> {
     /// The bytes put so far, if the sink shows them.
     ghost contents: { K → Option (List ℕ) };
@@ -31,11 +31,11 @@ pub trait Delivery<K> {
         ensures held { holds_back
             → HoldsBack (contents sink.old) (contents sink.new) (waiting sink.old) (waiting sink.new) };
 
-    /// Returns how many bytes wait for a flush, on a sink that holds replies back. Other sinks return 0.
+    /// Returns how many bytes of replies wait for a flush. Returns 0 if replies may be sent at any time.
     fn waits(sink: &K) -> usize
         ensures held { 0 < result → holds_back };
 
-    /// Sends all that waits.
+    /// Sends all bytes that wait.
     fn hand_on(sink: &mut K) -> Result<(), Failed>
         ensures same { Keeps (contents sink.old) (contents sink.new) }
         ensures flushed { OnOk result (waiting sink.new ≡ []) }
@@ -69,7 +69,7 @@ impl<K: Sink> Delivery<K> for AtOnce {
     }
 }
 
-/// The delivery of an output that holds replies back until it is flushed.
+/// The delivery of a [`HeldOutput`], which holds replies back until it is flushed.
 pub struct HeldBack;
 
 impl<K: Sink + Drop, L: Ledger> Delivery<HeldOutput<K, L>> for HeldBack {
@@ -85,7 +85,7 @@ impl<K: Sink + Drop, L: Ledger> Delivery<HeldOutput<K, L>> for HeldBack {
     ghost holds_back = { ⊤ };
 
     fn put_reply(reply: &Reply, sink: &mut HeldOutput<K, L>) -> Result<(), Failed> {
-        // the call gets the room alone, so it can't reach the sink below
+        // `send` gets the buffer alone, so it can't reach the sink below
         send(reply, &mut sink.room)
     }
 

@@ -9,16 +9,16 @@ use ps_grid::Refusal;
 use std::alloc::Global;
 use std::sync::ledger::{Blank, Ledger};
 
-/// A sink over another one, which gets nothing before a flush.
+/// A sink that holds back all bytes from another sink until a flush.
 ///
-/// All that was put is what that sink has, in order and whole, and then what waits. The room for what waits grows. A
-/// put that is out of memory is refused, and counted as a failure. After a failed flush, what the other sink didn't get
-/// still waits.
+/// The bytes that the other sink has, and then those that wait, are all bytes that were put, in order. The buffer of
+/// those that wait grows. A put that is out of memory fails, and counts as a failed call. After a failed flush, the
+/// bytes that the other sink didn't get still wait.
 #[derive(Drop)]
 pub struct HeldOutput<K: Sink + Drop, L: Ledger> {
-    /// the sink that gets at a flush what waits
+    /// the other sink, which gets the waiting bytes at a flush
     sink: K,
-    /// the bytes put last; the sink has the first `sent` of them already; it also counts all failures
+    /// the buffer; `sink` has its first `sent` bytes already; it also counts all failed calls
     pub(crate) room: MemorySink<L>,
     sent: usize,
     ghost within: { sent ≤ length room.bytes.items },
@@ -27,7 +27,8 @@ pub struct HeldOutput<K: Sink + Drop, L: Ledger> {
 impl<K: Sink + Drop, L: Ledger> HeldOutput<K, L> {
     ghost use Rattle.ps_session.specs.HeldOutputs.{held_contents, held_failures, held_waiting, sink_of};
 
-    /// Creates an output over this sink that holds nothing back. Takes no memory.
+    /// Creates an output over `sink` that holds nothing back yet. Takes no memory. `blank` opens the ledger in which
+    /// contracts count the failures.
     pub fn new(alloc: Global, sink: K, blank: Blank) -> HeldOutput<K, L>
         requires { IsBlankOf blank L.name L.parts }
         ensures sink { sink_of result ≡ sink }
@@ -42,7 +43,7 @@ impl<K: Sink + Drop, L: Ledger> HeldOutput<K, L> {
         }
     }
 
-    /// Creates an output as [`new`](HeldOutput::new) does, with room for this many bytes that it holds back.
+    /// Creates an output as [`new`](HeldOutput::new) does, with memory for `room` bytes that it holds back.
     ///
     /// Fails only as `Memory`.
     ///
@@ -65,7 +66,7 @@ impl<K: Sink + Drop, L: Ledger> HeldOutput<K, L> {
         Ok(output)
     }
 
-    /// Gives the sink what waits, and flushes it.
+    /// Puts the waiting bytes on the other sink, and flushes it.
     fn send_on(&mut self) -> Result<(), Failed>
         ensures same { Keeps (held_contents K.contents self.old) (held_contents K.contents self.new) }
         ensures flushed { OnOk result (held_waiting K.waiting self.new ≡ []) }
@@ -103,9 +104,9 @@ impl<K: Sink + Drop, L: Ledger> Sink for HeldOutput<K, L> {
         self.room.put(piece)
     }
 
-    /// Gives the sink below what waits, and flushes it.
+    /// Puts the waiting bytes on the sink below, and flushes it.
     ///
-    /// Cost: as many calls of the sink below as it wants for the bytes, and one more.
+    /// Cost: as many calls of the sink below as it takes for the bytes, and one more.
     fn flush(&mut self) -> Result<(), Failed> {
         let sent = self.send_on();
         if sent.is_err() {

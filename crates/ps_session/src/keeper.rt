@@ -1,26 +1,26 @@
-//! Keepers keep what a session has seen before its replies are sent.
+//! Keepers store what a session has seen, before its replies are sent.
 ghost use Rattle.std.specs.Prelude.{◌≡◌, OnErr, OnOk, ⊤};
 
 use ps_device::Failed;
 use std::alloc::Global;
 
-/// What keeps a board's changes: it shows them to others, or makes them outlive a crash. A session syncs its keeper
-/// before it sends replies.
+/// A keeper of a board's changes: it shows them to others, or makes them outlive a crash. Changes are kept once it has
+/// done so. A session syncs its keeper before it sends replies.
 pub trait Keeper<B> {
-    /// Holds if all that a board in this state has is kept.
+    /// Holds if all changes of a board in this state are kept.
     ghost covers: { Self → B → Type 0 };
 
-    /// Holds if what was noted is a beginning of what a board in this state has, and nothing has failed. The caller of
-    /// a session shows that it still holds once the board has more.
+    /// Holds if the changes that were noted are the first ones of a board in this state, and no sync has failed. The
+    /// caller of a session proves that this stays so when the board gets more.
     ghost fits: { Self → B → Type 0 };
 
     /// Holds if a sync may fail.
     ghost can_fail: { Type 0 };
 
-    /// Notes what the board has more than was noted, and has all of it kept.
+    /// Notes the board's changes that aren't noted yet, and keeps all of them.
     ///
-    /// Fails if its device failed, or when out of memory. What was covered before stays covered, and no session syncs
-    /// again after that.
+    /// Fails if its device failed, or when out of memory. Then what was covered stays covered, and the session ends
+    /// without another sync.
     ///
     /// Cost: linear in what is noted, and the time that the device takes.
     fn sync(&mut self, alloc: Global, board: &mut B) -> Result<(), Failed>

@@ -1,4 +1,5 @@
-//! Laws of sessions, as functions that do nothing. Each is its contract, and part of the public interface.
+//! Laws of sessions, as functions that do nothing. Each law is its function's contract, and part of the public
+//! interface.
 
 ghost use Rattle.ps_session.specs.EditLines.{EditLinesFit, EditsAreLawful};
 ghost use Rattle.ps_session.specs.Laws.{TranscriptIsDecided};
@@ -9,11 +10,10 @@ pub fn transcript_is_decided()
     ensures { TranscriptIsDecided }
 {}
 
-/// States that the line of an edit's delta is never too long, whatever the replica and the state.
+/// States that the line of an edit's delta is never too long, whatever the replica and the state (`fit`).
 ///
-/// It holds for each edit of one cell, and for each batch of at most as many cells as a row has. A line also asks that
-/// the delta is in range. This follows from the edit and the history: over deltas in range each edit makes one in
-/// range.
+/// This holds for each edit of one cell, and for each batch of at most as many cells as a row has. The delta has to be
+/// in range. It is if the deltas of the history are: an edit over such a history makes a delta in range (`lawful`).
 pub fn edit_lines_fit()
     ensures fit { EditLinesFit }
     ensures lawful { EditsAreLawful }

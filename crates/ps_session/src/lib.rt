@@ -1,10 +1,12 @@
 //! Sessions: lines in, replies out.
 //!
-//! - A [`Board`] answers commands, by a call for each.
-//! - [`converse`] is the one loop of all sessions. It reads a source to its end, obeys each line and writes its reply,
-//!   in order. A `Watcher` observes each line. A [`Keeper`] keeps what the session has seen before replies are sent.
-//! - [`talk`] is that loop without watcher and keeper. [`run`] is [`talk`] for a sheet, which is a board.
-//! - [`sync`] is a client's loop, from `ps_peers`: it asks a session at the other end of a connection.
+//! - A [`Board`] answers commands, with a method for each. A sheet is one.
+//! - [`converse`] is the one loop of all sessions. It reads a source to its end, carries out each line and writes its
+//!   reply, in order. A `Watcher` observes each line. Before replies are sent, a [`Keeper`] stores what the session has
+//!   seen, such as on a disk.
+//! - [`talk`] is that loop without watcher and keeper. [`run`] is [`talk`] for a sheet.
+//! - [`sync`], from `ps_peers`, is a client's loop. It pulls from a session at the other end of a connection, and
+//!   pushes to another.
 //!
 //! [`Command`], [`Reply`] and [`Session`], the buffer that puts a session's lines together, come from `ps_lines`.
 //!
@@ -15,16 +17,16 @@
 //! - At the end of the input, all that was read and written is a transcript of the board before and after
 //!   (`specs/Transcript.antt`). It doesn't depend on the pieces in which the bytes came.
 //! - If the source failed, the complete lines were answered and their replies sent.
-//! - If the sink failed, the reply to one line was cut.
-//! - A line is refused as out of memory only if it takes some.
-//! - If replies are held back, the keeper covers a state on the way, and what was sent is a beginning of the replies up
-//!   to that state (`IsCovered` in `specs/Keeping.antt`).
+//! - If the sink failed, the reply to one line was cut, or what waited for a flush wasn't sent.
+//! - A line is refused as out of memory only if it takes memory.
+//! - If replies are held back until a flush, the keeper covers a state of the board that some line left. What was sent
+//!   is a beginning of the replies up to that line (`IsCovered` in `specs/Keeping.antt`).
 //!
 //! For example, the reply to `set A1 5` is `ok 1`, and to `get A1` then `val 5`. The reply to `pull 0` is
 //! `delta 1 [["A1",[1,1,"5"],[],[]]]`; the line in it can be pushed to another sheet.
 //!
-//! Cost: a line costs its bytes and what its board takes. Reading takes the room of one line, and once more that of the
-//! longest delta that is pushed.
+//! Cost: a line costs its bytes and what its board takes. Reading takes the memory of one line, and once more that of
+//! the longest delta that is pushed.
 #![tactic(auto)]
 
 mod board;

@@ -1,4 +1,4 @@
-//! Obeys a line, whatever the board.
+//! Carries out a line through the methods of a board.
 ghost use Rattle.std.specs.Prelude.{◌≡◌, ◌<◌, List, Ok, OnErr, OnOk, max};
 ghost use Rattle.ps_device.specs.Device.{HoldsBack};
 ghost use Rattle.ps_delta.specs.Deltas.{Entries};
@@ -20,8 +20,8 @@ use ps_lines::{Command, Reply, Watcher, greatest_group};
 use std::alloc::Global;
 use std::thread::Threads;
 
-/// Reads a line that isn't empty as a command, obeys it, and puts the reply. A line that is no command is refused, and
-/// changes nothing.
+/// Reads a line that isn't empty as a command, carries it out, and puts the reply. A line that is no command is
+/// refused, and changes nothing.
 #[inline(always)]
 pub(crate) fn answer<R: Threads + Sync, B: Board<M>, M, W: Watcher, K, D: Delivery<K>>(
     tools: &mut Tools<'_, R>,
@@ -38,7 +38,7 @@ pub(crate) fn answer<R: Threads + Sync, B: Board<M>, M, W: Watcher, K, D: Delive
     ensures held { D.holds_back → HoldsBack (D.contents sink.old) (D.contents sink.new)
         (D.waiting sink.old) (D.waiting sink.new) }
 {
-    // for the law that what the calls answer is the reply to a line
+    // for its contract: the reply to a line is made from what the methods answer
     B::calls_answer_lines();
     match Command::read(tools.resources.alloc, &mut tools.decoder, line) {
         Ok(command) => {
@@ -48,7 +48,7 @@ pub(crate) fn answer<R: Threads + Sync, B: Board<M>, M, W: Watcher, K, D: Delive
     }
 }
 
-/// Does what a line's command asks for by the board's calls, and puts the reply.
+/// Carries out a command through the board's methods, and puts the reply.
 #[inline(always)]
 fn obey<R: Threads + Sync, B: Board<M>, M, W: Watcher, K, D: Delivery<K>>(
     tools: &Tools<'_, R>,
@@ -67,7 +67,7 @@ fn obey<R: Threads + Sync, B: Board<M>, M, W: Watcher, K, D: Delivery<K>>(
         (D.waiting sink.old) (D.waiting sink.new) }
 {
     let Resources { threads, alloc } = tools.resources;
-    // The replies to an edit and to `get` are put here; any other has a place in memory.
+    // The replies to an edit and to `get` are put here. Any other is stored in `other` first.
     let other = match command {
         Command::Edit(edit) => {
             return match board.apply_edit(threads, alloc, edit, meter) {
@@ -93,7 +93,7 @@ fn obey<R: Threads + Sync, B: Board<M>, M, W: Watcher, K, D: Delivery<K>>(
     tell_other::<W, K, D>(line, other, watcher, sink)
 }
 
-/// Returns the entry of a cell.
+/// Returns the reply with the entry of a cell.
 fn show_entry<B: Board<M>, M>(alloc: Global, cell: Cell, board: &mut B) -> Reply
     ensures { TellsAnswer (λ answer. B.calls.holds board.old cell answer board.new) entry_reply (reply_text result) }
 {
@@ -103,7 +103,7 @@ fn show_entry<B: Board<M>, M>(alloc: Global, cell: Cell, board: &mut B) -> Reply
     }
 }
 
-/// Returns the shown values of a rectangle as a table.
+/// Returns the reply with the shown values of a rectangle, as a table.
 fn show_table<B: Board<M>, M>(alloc: Global, rect: Rect, board: &mut B) -> Reply
     ensures { TellsAnswer (λ answer. B.calls.tables board.old rect answer board.new) (rows_text rect.height)
         (reply_text result) }
@@ -114,7 +114,7 @@ fn show_table<B: Board<M>, M>(alloc: Global, rect: Rect, board: &mut B) -> Reply
     }
 }
 
-/// Returns the entries of a rectangle as a table.
+/// Returns the reply with the entries of a rectangle, as a table.
 fn list_entries<B: Board<M>, M>(alloc: Global, rect: Rect, board: &mut B) -> Reply
     ensures { TellsAnswer (λ answer. B.calls.lists board.old rect answer board.new) (entries_reply rect.height)
         (reply_text result) }
@@ -132,7 +132,7 @@ fn hand_out<B: Board<M>, M>(alloc: Global, from: u64, most: usize, board: &mut B
     ensures { (answer : Read (List Entries)) × B.calls.pulls board.old from (max most 1) answer board.new
         × HandsOn from most answer (reply_text result) }
 {
-    // one at least, so that there is none only at the end
+    // at least one, so that no delta comes back only at the end
     let deltas = match board.pull(alloc, from, most.max(1)) {
         Ok(deltas) => deltas,
         Err(refusal) => return Reply::Refused(refusal),
@@ -146,7 +146,7 @@ fn hand_out<B: Board<M>, M>(alloc: Global, from: u64, most: usize, board: &mut B
     }
 }
 
-/// Takes in a delta made elsewhere.
+/// Takes in a delta made elsewhere, and returns the reply.
 fn take_in<R: Threads + Sync, B: Board<M>, M>(
     rt: &R,
     alloc: Global,
@@ -165,7 +165,7 @@ fn take_in<R: Threads + Sync, B: Board<M>, M>(
     }
 }
 
-/// Takes in what is new of a delta made elsewhere.
+/// Takes in what is new in a delta made elsewhere, and returns the reply.
 fn merge_in<R: Threads + Sync, B: Board<M>, M>(
     rt: &R,
     alloc: Global,

@@ -19,8 +19,8 @@ use ps_wire::Decoder;
 use std::alloc::{AllocError, Global};
 use std::thread::Threads;
 
-/// Syncs all that the board has, and then sends what waits. So whatever a reply reports is kept before the reply is
-/// out.
+/// Syncs the keeper with the board, and then sends the waiting replies. So whatever a reply reports is kept before the
+/// reply is out.
 fn release<B: Board<M>, M, K, D: Delivery<K>, Q: Keeper<B>>(
     alloc: Global,
     keeper: &mut Q,
@@ -49,9 +49,9 @@ fn release<B: Board<M>, M, K, D: Delivery<K>, Q: Keeper<B>>(
     }
 }
 
-/// Answers each line that a piece ends.
+/// Answers each line that ends in a piece.
 ///
-/// Held-back replies are released at `PIECE_BYTES` bytes of them, before a line `wait`, and all at the end.
+/// It releases held-back replies once `PIECE_BYTES` bytes of them wait, before a line `wait`, and at the end.
 fn read_piece<R: Threads + Sync, B: Board<M>, M, W: Watcher, K, D: Delivery<K>, Q: Keeper<B>>(
     conversation: &mut Conversation<R>,
     piece: &[u8],
@@ -101,7 +101,7 @@ fn read_piece<R: Threads + Sync, B: Board<M>, M, W: Watcher, K, D: Delivery<K>, 
     Ok(())
 }
 
-/// Reads the source to its end, and answers each line that ends there. What waits is released before each read.
+/// Reads the source to its end, and answers each line that ends in it. It releases waiting replies before each read.
 fn read_on<
     R: Threads + Sync,
     S: Source,
@@ -173,20 +173,21 @@ fn read_on<
     }
 }
 
-/// Answers each line of a source by a board, to the end of the input, and returns how many lines had a reply.
+/// Answers each line of a source from a board, to the end of the input, and returns how many lines had a reply.
 ///
-/// 2^64 - 1 stands for that number and more. The watcher sees each line that ended, after the line was obeyed and
-/// before its reply is written. The keeper has kept what the session has seen before replies are sent.
+/// 2^64 - 1 stands for that number and more. The watcher sees each line after it was carried out, and before its reply
+/// is written. A line whose reply can't be written was carried out all the same.
 ///
-/// The input is read in pieces of at most `PIECE_BYTES` bytes, and where a line is cut doesn't matter. Before each read
-/// and at the end the keeper is synced, and all replies are sent. If they are [`HeldBack`](crate::HeldBack), this also
-/// happens once `PIECE_BYTES` bytes of them wait, and before the line `wait`; no reply is sent at another time.
+/// The input is read in pieces of at most `PIECE_BYTES` bytes, and a line may lie in several. Before each read and at
+/// the end it syncs the keeper with the board, and then sends all replies.
 ///
-/// Once a sync or the sink failed, nothing more is sent. So at any end the keeper covers a state of the board that
-/// comes after all that was shown or acknowledged. A line whose reply can't be written was carried out all the same.
+/// If replies are [`HeldBack`](crate::HeldBack), it also does so once `PIECE_BYTES` bytes of them wait, and before a
+/// line `wait`. It sends no reply at another time, and none after a sync or the sink failed. So at any end the keeper
+/// covers a state of the board that has all that was shown or acknowledged. Under [`AtOnce`](crate::AtOnce) a reply may
+/// be sent before the sync.
 ///
-/// Cost: O(n) in the n bytes of the input and the replies. In addition: what the board takes for each line, the room of
-/// one line and of the replies that wait, a decoder, the watcher's own, and a sync each time that replies are sent.
+/// Cost: O(n) in the n bytes of the input and the replies. In addition: what the board takes for each line, the memory
+/// of one line and of the replies that wait, a decoder, the watcher's own, and a sync each time that replies are sent.
 pub fn converse<
     R: Threads + Sync,
     S: Source,

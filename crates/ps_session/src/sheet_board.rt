@@ -72,7 +72,7 @@ impl<L: Ledger> Board<Meter<L>> for Sheet {
     }
 
     fn table(&mut self, alloc: Global, rect: Rect) -> Result<Vec<u8>, Refusal> {
-        // for the fact that the sheet is one, so that what it shows is settled
+        // for its contract: the sheet is one (`IsSheet`), so what it shows is settled
         let _ = self.version();
         exported_text(alloc, self, rect)
     }

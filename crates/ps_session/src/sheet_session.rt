@@ -15,12 +15,12 @@ use std::alloc::Global;
 use std::sync::ledger::Ledger;
 use std::thread::Threads;
 
-/// Answers each line of a source by a sheet, to the end of the input, and returns how many lines had a reply.
+/// Answers each line of a source from a sheet, to the end of the input, and returns how many lines had a reply.
 ///
-/// 2^64 - 1 stands for that number and more. A line whose reply can't be written has been carried out all the same.
-/// After a fault the sheet is the one after the last line that was carried out.
+/// 2^64 - 1 stands for that number and more. A line whose reply can't be written was carried out all the same. After a
+/// fault the sheet is the one after the last line that was carried out.
 ///
-/// If each delta of the history has a line, as in an empty one, this stays so, and no pull is refused as too long.
+/// If each delta of the history fits a line, as in an empty history, this stays so, and no pull is refused as too long.
 ///
 /// Cost: that of [`talk`].
 pub fn run<R: Threads + Sync, S: Source, K: Sink, L: Ledger>(
@@ -56,7 +56,7 @@ pub fn run<R: Threads + Sync, S: Source, K: Sink, L: Ledger>(
     ensures source_failed { result ≡ Err RunFault.Source → S.failures source.old < S.failures source.new }
 {
     let answered = talk(rt, alloc, source, sink, sheet, meter);
-    // for the fact that the sheet is one still (`IsSheet`)
+    // for its contract: the sheet is still one (`IsSheet`)
     let _ = sheet.version();
     answered
 }

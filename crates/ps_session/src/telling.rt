@@ -1,4 +1,4 @@
-//! Puts the reply to a line on the sink, after the watcher saw it.
+//! Puts the reply to a line on the sink, after the watcher saw the line.
 ghost use Rattle.std.specs.Prelude.{◌≡◌, ◌<◌, OnErr, OnOk};
 ghost use Rattle.ps_device.specs.Device.{HoldsBack, Sends};
 ghost use Rattle.ps_lines.specs.Replies.{refusal_text, reply_text};
@@ -8,10 +8,10 @@ use ps_device::Failed;
 use ps_grid::Refusal;
 use ps_lines::{Reply, Watcher};
 
-/// Has a watcher see what became of a line, and puts its reply.
+/// Shows the watcher a line with its outcome, and puts the reply.
 ///
-/// It is inlined, so that a reply that is made at the call is put by its own form, without a place in memory for all
-/// forms.
+/// It is inlined: where the reply is made at the call, its variant is then known there, and the `Reply` needs no memory
+/// of its own.
 #[inline(always)]
 pub(crate) fn tell<W: Watcher, K, D: Delivery<K>>(
     line: &[u8],
@@ -29,7 +29,7 @@ pub(crate) fn tell<W: Watcher, K, D: Delivery<K>>(
     D::put_reply(&reply, sink)
 }
 
-/// Puts a reply as [`tell`] does, in one place for all replies that aren't put where they are made.
+/// Does what [`tell`] does, in one piece of code for all replies that aren't put where they are made.
 pub(crate) fn tell_other<W: Watcher, K, D: Delivery<K>>(
     line: &[u8],
     reply: Reply,
@@ -45,7 +45,7 @@ pub(crate) fn tell_other<W: Watcher, K, D: Delivery<K>>(
     tell::<W, K, D>(line, reply, watcher, sink)
 }
 
-/// Refuses a line.
+/// Shows the watcher that a line was refused, and puts the refusal.
 #[inline(never)]
 pub(crate) fn refuse<W: Watcher, K, D: Delivery<K>>(
     line: &[u8],

@@ -27,7 +27,7 @@ use ps_lines::{Line, LineBuffer, Outcome, Unwatched, WAIT, Watcher, trimmed};
 use std::alloc::Global;
 use std::thread::Threads;
 
-/// A session under way, without its board and its devices.
+/// The state of a running session, without its board and its devices.
 #[derive(Drop)]
 pub(crate) struct Conversation<'a, R> {
     /// What its lines are read and obeyed with.
@@ -71,7 +71,7 @@ fn answer_line<R: Threads + Sync, B: Board<M>, M, W: Watcher, K, D: Delivery<K>>
 
 /// Returns whether held-back replies of `held` bytes are released before the rest of a piece is taken in.
 ///
-/// This is so for `PIECE_BYTES` bytes, and if the next line waits: nobody has to wait for the replies meanwhile.
+/// They are at `PIECE_BYTES` bytes, and if the next line is a `wait`: the peer gets them before the session waits.
 #[inline(always)]
 fn is_to_release(held: usize, rest: &[u8]) -> bool
     ensures some { result ≡ true → 0 < held }
@@ -156,7 +156,8 @@ impl<R: Threads + Sync> Conversation<'_, R> {
         }
     }
 
-    /// Takes in a piece up to its first line feed, and answers the line that it ends.
+    /// Takes in a piece up to its first line feed, and answers the line that ends there. Returns how many bytes it
+    /// took.
     #[inline(never)]
     fn turn_in_parts<B: Board<M>, M, W: Watcher, K, D: Delivery<K>>(
         &mut self,
@@ -188,8 +189,8 @@ impl<R: Threads + Sync> Conversation<'_, R> {
         Ok(fed.taken)
     }
 
-    /// Takes in a piece up to its first line feed, and answers the line that it ends. A line that lies whole in the
-    /// piece isn't copied.
+    /// Takes in a piece up to its first line feed, and answers the line that ends there. Returns how many bytes it
+    /// took. A line that lies whole in the piece isn't copied.
     fn turn<B: Board<M>, M, W: Watcher, K, D: Delivery<K>>(
         &mut self,
         piece: &[u8],
@@ -227,7 +228,7 @@ impl<R: Threads + Sync> Conversation<'_, R> {
         Ok(place + 1)
     }
 
-    /// Takes in a piece, and answers each line that it ends.
+    /// Takes in a piece, answers each line that ends in it, and returns how many bytes it took.
     ///
     /// It stops at the end of the piece, once `PIECE_BYTES` bytes of replies are held back, or before a line `wait` if
     /// any are.
@@ -296,23 +297,23 @@ impl<R: Threads + Sync> Conversation<'_, R> {
     }
 }
 
-/// Why a session ended before the end of its input.
+/// Why a session failed.
 #[derive(Clone, Copy, PartialEq, Eq)]
 pub enum RunFault {
-    /// There was no memory for the room of a line; nothing was read.
+    /// Allocation of the buffer for a line failed; nothing was read.
     Memory,
     /// The source failed.
     Source,
     /// The sink failed.
     Sink,
-    /// What the session has seen couldn't be kept; nothing more is sent.
+    /// The keeper couldn't keep what the session has seen; nothing more is sent.
     Keep,
 }
 
 /// Answers each line of a source on a sink, to the end of the input, and returns how many lines had a reply.
 ///
 /// 2^64 - 1 stands for that number and more. It is [`converse`] without watcher and keeper. The sink may send replies
-/// as they come; before each read, and at the end, all are sent.
+/// at any time. Before each read and at the end all are sent.
 ///
 /// Cost: that of [`converse`].
 pub fn talk<R: Threads + Sync, S: Source, B: Board<M>, M, K: Sink>(

@@ -113,7 +113,7 @@ tells_the_same replica old made history low high law twice each read squashed =
     (plain_of old twice each) squashed in
     record { history = history; read = read; fewer = r.0; again = r.1; same = r.2 }
 
--- .. and takes its place where that is worth it
+-- .. and replaces the file if the gain is worth it
 pub is_replaced : (worth : Worth) (replica : ℕ) (old new made : List ℕ) (changes : Shortened)
     → (same : TellsTheSame replica old made) → IsSquashed (text (whole_lines old)) made
     → is_worth worth (length old) (length made) ≡ true → new ≡ made → changes.before ≡ length same.history
@@ -133,7 +133,7 @@ is_replaced worth replica old new made changes same squashed worthy is before af
   after = after ∙ changes_of replica made same.fewer same.again;
 }
 
--- .. and doesn't where it isn't
+-- .. and doesn't if it isn't
 pub is_left : (worth : Worth) (replica : ℕ) (old made : List ℕ) (history : List Entries) (changes : Shortened)
     → Reads replica old history → IsSquashed (text (whole_lines old)) made
     → is_worth worth (length old) (length made) ≡ false → changes.before ≡ length history
@@ -147,7 +147,7 @@ is_left worth replica old made history changes read squashed worthless before af
   after = after;
 }
 
--- one that failed left the old file or the new one
+-- a replacement that failed left the old file or the new one
 pub either_way : {F : Type 0} (fault : F) (replica : ℕ) (old new made : List ℕ) → TellsTheSame replica old made
     → (new ≡ old) ⊎ (new ≡ made) → (new ≡ old) ⊎ ((fault ≡ fault) × TellsTheSame replica old new)
 either_way fault replica old new made same (inl e) = inl e

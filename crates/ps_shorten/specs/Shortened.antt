@@ -8,7 +8,7 @@ use Rattle.ps_shorten.specs.declared.in_place.Shortened.{Shortened}
 use Rattle.ps_shorten.specs.declared.in_place.Worth.{Worth}
 use Rattle.ps_shorten.specs.declared.in_place.Worth.TheVariants as worths
 
--- the contents of a file of these bytes after a replacement, if there was one
+-- the bytes of a file: those of the file that replaced it, or `bytes` if none did
 abbrev pub content_of : List ℕ → Option (List ℕ) → List ℕ
 content_of bytes None = bytes
 content_of bytes (Some text) = text
@@ -17,7 +17,7 @@ content_of bytes (Some text) = text
 abbrev pub HasChanges : ℕ → List ℕ → ℕ → Type 0
 HasChanges replica bytes count = (history : List Entries) × Reads replica bytes history × (count ≡ length history)
 
--- TELLS THE SAME: a start of the replica reads a history in the old file, and one with the same join in the new one
+-- TELLS THE SAME: a start of the replica reads a history in the old bytes, and one with the same join in the new bytes
 pub record TellsTheSame (replica : ℕ) (old new : List ℕ) : Type 0 where
   pub history : List Entries
   pub read : Reads replica old history
@@ -25,13 +25,13 @@ pub record TellsTheSame (replica : ℕ) (old new : List ℕ) : Type 0 where
   pub again : Reads replica new fewer
   pub same : joined_history fewer ≡ joined_history history
 
--- whether a file of so many bytes is replaced by one of so many
+-- whether a file of `old` bytes is replaced by one of `new` bytes
 abbrev pub is_worth : Worth → ℕ → ℕ → Bool
 is_worth worths.Less old new = nat_lt new old
 is_worth worths.Half old new = nat_le new (old / 2)
 
--- SQUASHED IN ITS PLACE: the file has what `squash` makes of its whole lines where that is worth it. Else it is as it
--- was. It tells the same, and these are the numbers of its changes before and after
+-- SQUASHED IN PLACE: the file has what `squash` makes of its whole lines if the gain is worth it, and else is as it
+-- was. A start reads a history with the same join from the file. `changes` has the lengths of both histories
 pub record IsShortened (worth : Worth) (replica : ℕ) (old new : List ℕ) (changes : Shortened) : Type 0 where
   pub text : List ℕ
   pub squashed : IsSquashed (text_of (whole_lines old)) text

@@ -4,18 +4,18 @@ ghost use Rattle.ps_shorten.specs.declared.fault.ShortenFault.TheVariants.{Memor
 
 use std::alloc::AllocError;
 
-/// Why a kept file isn't squashed.
+/// Why [`shorten`](crate::shorten) failed.
 #[derive(Clone, Copy, Debug, PartialEq, Eq)]
 pub enum ShortenFault {
     /// Out of memory.
     Memory,
-    /// The file can't be replaced.
+    /// Replacing the file failed.
     Device,
-    /// The line with this number, from 1, is invalid, or ends in a carriage return.
+    /// The line with this number, from 1, is one that a start refuses, or ends in a carriage return.
     Line(u64),
     /// The file belongs to this other replica.
     Replica(u8),
-    /// The lines hold more of one cell than a line has room for.
+    /// The joined state of one cell is too long for a line.
     TooLong,
 }
 

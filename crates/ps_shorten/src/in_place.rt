@@ -1,4 +1,4 @@
-//! Replacing a kept file by a shorter one with the same contents.
+//! Replaces a kept file by a shorter one that says the same.
 ghost use Rattle.std.specs.Prelude.{◌≡◌, ◌⊎◌, ◌-◌, ◌≤◌, List, IfErr, IfOk, length};
 ghost use Rattle.std.specs.List.{All};
 ghost use Rattle.ps_grid.specs.Blanks.{IsBlankOf};
@@ -23,7 +23,7 @@ use std::marker::Brand;
 use std::sync::ledger::{Blank, Ledger};
 use std::thread::Threads;
 
-/// The gain for which a file is replaced.
+/// How much shorter a file must get for [`shorten`] to replace it.
 #[derive(Clone, Copy, Debug, PartialEq, Eq)]
 pub enum Worth {
     /// The file gets shorter.
@@ -47,12 +47,12 @@ fn is_worth(worth: Worth, old: usize, new: usize) -> bool
 pub struct Shortening {
     /// The replica that the file belongs to, 1 to `REPLICAS`.
     pub replica: u8,
-    /// The gain for which the file is replaced.
+    /// How much shorter the file must get to be replaced.
     pub worth: Worth,
     ghost replica_in_range: { (1 ≤ replica) × (replica ≤ REPLICAS) },
 }
 
-/// The number of a file's changes before and after.
+/// How many changes a file had before [`shorten`] and has after it; both are equal if the file wasn't replaced.
 #[derive(Clone, Copy, Debug, PartialEq, Eq)]
 pub struct Shortened {
     /// The number of changes before.
@@ -61,7 +61,7 @@ pub struct Shortened {
     pub after: u64,
 }
 
-/// Returns how many changes a start of this replica reads from these bytes. It refuses what a start refuses.
+/// Returns how many changes a start of this replica reads from these bytes. Fails if a start refuses them.
 fn count_read<R: Threads + Sync, L: Ledger>(
     rt: &R,
     alloc: Global,
@@ -97,8 +97,8 @@ fn count_read<R: Threads + Sync, L: Ledger>(
     }
 }
 
-/// Returns the whole lines of these bytes. A line that ends in a carriage return is a fault: no law says that it reads
-/// as the line without it.
+/// Returns the whole lines of these bytes, without a piece after the last line feed. Fails at a line that ends in a
+/// carriage return: no law says that a start reads such a line as the line without it.
 fn plain_lines(alloc: Global, bytes: &[u8]) -> Result<Vec<u8>, ShortenFault>
     ensures lines { IfOk result (λ plain. plain.items ≡ text_of (whole_lines bytes.now)) }
     ensures no_return { IfOk result (λ _. All (λ line. without_return line ≡ line) (whole_lines bytes.now)) }
@@ -125,7 +125,8 @@ fn squashed(alloc: Global, lines: &[u8]) -> Result<Vec<u8>, ShortenFault>
     squashed_counted::<Brand, Brand>(alloc, lines, Blank::new(1), Blank::new(1))
 }
 
-/// Returns the same, by a source and a sink over these blanks.
+/// Returns what `squash` makes of these lines. The source and the sink between count their failures, in ghost ledgers
+/// over `input` and `output`.
 fn squashed_counted<I: Ledger, O: Ledger>(
     alloc: Global,
     lines: &[u8],
@@ -152,7 +153,7 @@ fn squashed_counted<I: Ledger, O: Ledger>(
     Ok(bytes)
 }
 
-/// Returns how many changes these bytes have: whole lines after the first.
+/// Returns how many changes these bytes have: the number of whole lines after the first.
 fn count_changes(bytes: &[u8]) -> u64
     ensures { result ≡ length (whole_lines bytes.now) - 1 }
 {
@@ -192,21 +193,21 @@ fn read_and_squash<R: Threads + Sync, L: Ledger>(
     }
 }
 
-/// Replaces a kept file by what `squash` makes of its whole lines, if that is worth it. Afterwards a start reads a
-/// history with the same join from it.
+/// Replaces a kept file by what `squash` makes of its whole lines, if the file gets as short as `asked.worth` demands.
+/// Returns how many changes the file had before and has after. A start then reads a history with the same join from it.
 ///
 /// # Errors
 ///
-/// - `Line`: a line that a start refuses, or one that ends in a carriage return.
+/// - `Line`: the number of a line that a start refuses, or that ends in a carriage return.
 /// - `Replica`: the file belongs to this other replica.
-/// - `TooLong`: the lines hold more of one cell than a line has room for.
+/// - `TooLong`: the joined state of one cell is too long for a line.
 /// - `Memory`: out of memory.
-/// - `Device`: the file can't be replaced. It is as it was, or it has been replaced and its name may not be durable
-///   yet.
+/// - `Device`: replacing the file failed. The file is as it was, or it has been replaced and its name may not be
+///   durable yet.
 ///
 /// After every other error the file is as it was.
 ///
-/// Cost: that of a start, and of [`squash`]. It takes three times the memory of the file's bytes.
+/// Cost: that of a start, and of [`squash`]. It takes memory for three times the file's bytes.
 pub fn shorten<R: Threads + Sync, P: Replace, L: Ledger>(
     rt: &R,
     alloc: Global,
@@ -219,7 +220,7 @@ pub fn shorten<R: Threads + Sync, P: Replace, L: Ledger>(
     ensures same { IfErr result (λ fault. (P.content file.new ≡ P.content file.old)
         ⊎ ((fault ≡ Device) × TellsTheSame asked.replica (P.content file.old) (P.content file.new))) }
 {
-    // for the laws that whole lines read as such again, and that the squashed lines tell the same
+    // for the laws that whole lines read as such again, and that the squashed lines say the same
     reading_twice();
     squashed_files_read_the_same();
     let bytes = file.bytes();

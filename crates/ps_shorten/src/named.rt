@@ -20,20 +20,20 @@ pub trait Replace {
     /// The bytes that a start finds under the file's name.
     ghost content: { Self → List ℕ };
 
-    /// The bytes that a start finds under the file's name.
+    /// Returns the bytes that a start finds under the file's name.
     fn bytes(&self) -> &[u8]
         ensures { result.now ≡ content self.now };
 
-    /// Replaces the file by one of these bytes, and syncs these and its name. At each moment the name leads to the
-    /// whole old file or to the whole new one. A crash leaves one of the two.
+    /// Replaces the file by a new one with the bytes `text`, and syncs these bytes and the file's name. At each moment
+    /// the name leads to the whole old file or to the whole new one, also after a crash.
     ///
-    /// Cost: linear in the bytes. The time that the device takes comes on top.
+    /// Cost: linear in the bytes, and the time that the device takes.
     fn replace(&mut self, text: Vec<u8>) -> Result<(), Failed>
         ensures replaced { OnOk result (content self.new ≡ text.items) }
         ensures whole { OnErr result ((content self.new ≡ content self.old) ⊎ (content self.new ≡ text.items)) };
 }
 
-/// A file that replaced another, with its lock.
+/// The file that replaced another one; its lock ends when it is dropped.
 #[derive(Drop)]
 struct NewFile {
     file: File,
@@ -43,10 +43,10 @@ struct NewFile {
 /// A file of the operating system under its name. Its contracts repeat what its system calls returned: that the system
 /// does what it reports is trusted.
 ///
-/// It has the lock of the file that was found, and of the one that replaced it, until it is dropped. The new file is
-/// locked before it gets the name, and the old one is still locked as it loses it. So at each moment the file under the
-/// name is locked, and a start in between finds it taken. A start that opened the old file before, and locks it once
-/// this is dropped, finds another file under the name, and is refused.
+/// A `NamedFile` has the lock of the file that was found, and of the file that replaced it, until the `NamedFile` is
+/// dropped. The new file is locked before it gets the name, and the old one is still locked when it loses the name. So
+/// at each moment the file under the name is locked, and a start in between fails. A start may have opened the old file
+/// before, and may lock it once the `NamedFile` is dropped. This start finds another file under the name, and fails.
 #[derive(Drop)]
 pub struct NamedFile<'a, R: Files<File = File>, F: Found + Drop> {
     rt: &'a R,
@@ -60,7 +60,8 @@ pub struct NamedFile<'a, R: Files<File = File>, F: Found + Drop> {
 }
 
 impl<'a, R: Files<File = File>, F: Found + Drop> NamedFile<'a, R, F> {
-    /// The file of this path, as it was found. If it can't be replaced, `reason` gets to know why.
+    /// Returns the file at `path`, which was opened as `found`. If a system call fails while the file is replaced,
+    /// `reason` stores why.
     pub fn new(
         rt: &'a R,
         alloc: Global,
@@ -92,7 +93,7 @@ impl<R: Files<File = File>, F: Found + Drop> Replace for NamedFile<'_, R, F> {
     }
 
     fn replace(&mut self, text: Vec<u8>) -> Result<(), Failed> {
-        // (a link stays one, and the file that it leads to is replaced)
+        // (a symbolic link stays one, and the file that it leads to is replaced)
         let path = noted(&self.reason, self.rt.canonicalize(self.alloc, self.path))?;
         let file = put_in_place(self.rt, self.alloc, &self.reason, &path, &text)?;
         self.new = Some(NewFile { file, bytes: text });
@@ -100,7 +101,7 @@ impl<R: Files<File = File>, F: Found + Drop> Replace for NamedFile<'_, R, F> {
     }
 }
 
-/// Returns what a call of the system made, or notes why it failed.
+/// Returns the result of a system call, or stores in `reason` why the call failed.
 fn noted<T: Drop>(reason: &FailureReason, done: io::Result<T>) -> Result<T, Failed> {
     match done {
         Ok(made) => Ok(made),
@@ -111,8 +112,8 @@ fn noted<T: Drop>(reason: &FailureReason, done: io::Result<T>) -> Result<T, Fail
     }
 }
 
-/// Writes a file of these bytes, gives it this path, and returns it locked. Where it fails the path still leads to the
-/// old file.
+/// Writes a new file of these bytes, renames it to this path, and returns it locked. If this fails, the path still
+/// leads to the old file.
 fn put_in_place<R: Files<File = File>>(
     rt: &R,
     alloc: Global,
@@ -131,13 +132,13 @@ fn put_in_place<R: Files<File = File>>(
     {
         return Ok(file);
     }
-    // (it is in nobody's way, and the next squash removes it)
+    // (if the new file stays, it does no harm, and the next call removes it)
     let _ = remove_file(rt, beside);
     Err(Failed)
 }
 
-/// Makes an empty file beside that of this name, locks it, and gives it the same owner and rights. What an earlier
-/// squash left there, which was killed, is removed.
+/// Creates an empty file named `beside`, locks it, and gives it the owner and the permissions of the file `name`. A
+/// file that an earlier, killed program left under the name `beside` is removed first.
 fn new_file<R: Files<File = File>>(
     rt: &R,
     reason: &FailureReason,
@@ -171,14 +172,14 @@ fn new_file<R: Files<File = File>>(
     Ok(file)
 }
 
-/// Writes these bytes, and has them on the disk.
+/// Writes these bytes to the file, and syncs it.
 fn write_whole(reason: &FailureReason, file: &File, bytes: &[u8]) -> Result<(), Failed> {
     let mut writer = file;
     noted(reason, writer.write_all(bytes))?;
     noted(reason, file.sync_all())
 }
 
-/// Has the names of the file's folder on the disk.
+/// Syncs the folder of the file at `path`, so that the file's new name is durable.
 fn sync_folder<R: Files<File = File>>(
     rt: &R,
     reason: &FailureReason,

@@ -65,11 +65,11 @@ after_push-other line other = go (starts_with nat_eq line push_word) refl
     go true is = absurd (other (drop 5 line, split_push line is))
     go false is = refl
 
--- .. and of another one all after it is left
+-- .. and of a line that begins with the word all after the word is left
 pub after_push-push : (line text : List ℕ) → line ≡ push_word ++ text → after_push line ≡ text
 after_push-push line text is = ap after_push is
 
--- what a line says that pushes
+-- what a line with `push ` says
 pub push_says : (line : List ℕ) (d : Entries) → Pushes line d → Says line (d ∷ [])
 unfolding Says
 push_says line d pushes =
@@ -81,7 +81,7 @@ push_says_none line push none =
     says_none line (λ silent. silent_pushes_none line silent push)
     (λ d is. none d (push.0, push.1, subst (λ t. IsLine t d) (after_push-push line push.0 push.1) is))
 
--- .. and what one does that neither pushes nor is silent
+-- .. and what a line says that neither pushes nor is silent
 pub other_says : (line : List ℕ) (d : Entries) → ¬ IsPush line → IsLine line d → Says line (d ∷ [])
 unfolding Says
 other_says line d other is = inr (d, subst (λ t. IsLine t d) (sym (after_push-other line other)) is, refl)
@@ -138,7 +138,7 @@ pub told_says_none : (line : List ℕ) (told : Option ℕ) (deltas : List Entrie
 told_says_none line None deltas is said = absurd (false≢true is)
 told_says_none line (Some n) deltas is said = replica_says_none line n said.0
 
--- a line of which nothing is kept is too long
+-- if the buffer stores none of a line's bytes, the line is too long
 over_limit : (raw : List ℕ) → kept raw ≡ None → LINE_LIMIT < length raw
 over_limit raw is = grind (arith, nat_tests, long_kept raw is)
 

@@ -72,7 +72,7 @@ front_full n es sizes is within over =
     ∙ ap (sum_by ended) (take-add n 1 es) in
     let most = over (length-left n es within some) in omega (arith, most, sum))
 
--- of so many cells a line is made, as many as it has room for
+-- the first cells, as many as a line has room for, make a line
 pub record IsCount (n : ℕ) (es : Entries) : Type 0 where
   pub some : 0 < n
   pub within : n ≤ length es

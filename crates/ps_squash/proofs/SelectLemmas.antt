@@ -1,4 +1,4 @@
--- What is taken of deltas, one after another.
+-- What a selection takes of deltas, one after another.
 use Rattle.std.proofs.Common.{◌≡◌, ℕ, suc, zero, ◌+◌, ◌-◌, List, [], ◌∷◌, ◌++◌, length, take, refl, sym, ap, ◌∙◌, arith}
 use Rattle.std.proofs.Common.{Option, Some, None, Bool, true, false, length-append, subst, ⊎_elim}
 use Rattle.std.proofs.Math.Dec.{T}
@@ -76,7 +76,7 @@ none_selected (Some (suc n)) None = refl
 none_selected (Some zero) (Some replica) = refl
 none_selected (Some (suc n)) (Some replica) = refl
 
--- ---- what is still taken
+-- ---- the selection for the deltas to come
 
 sums_same : (a b : Sum) → a.state ≡ b.state → a.still.until ≡ b.still.until → a.still.without ≡ b.still.without → a ≡ b
 sums_same a b state until without =
@@ -123,7 +123,7 @@ pub selected_state : (asked : Selection) (sum : Sum) (ds : List Entries) → sum
 selected_state asked sum ds is =
     ap (λ (s : Sum). s.state) is ∙ joined_state-empty (joined_history (selected asked ds))
 
--- ---- one delta more
+-- ---- one more delta
 
 one_taken : (until without : Option ℕ) (d : Entries) → is_taken (record { until = until; without = without }) ≡ true
     → selected (record { until = until; without = without }) (d ∷ []) ≡ each_without without (d ∷ [])
@@ -141,7 +141,7 @@ none_taken (Some zero) None d is = refl
 none_taken (Some zero) (Some replica) d is = refl
 none_taken (Some (suc n)) without d is = absurd (false≢true (sym is ∙ some_more n))
 
--- .. that is passed over
+-- .. that is left out
 pub passed : (old : State) (still new_still : Selection) (d : Entries) → is_taken still ≡ false
     → new_still ≡ still_after still 1 → sum_of old new_still ≡ sum_after (sum_of old still) (d ∷ [])
 passed old still new_still d is counted =
@@ -248,7 +248,7 @@ kept_in_range {R = R} m p q es is all =
     (AllPass-from_list_all q (map.entries m) (and_right _ _ all))) in
     subst (λ xs. (map.is_sorted R xs && list_all q xs) ≡ true) (sym is) (and_both _ _ sorted in_range)
 
--- a counter or a set that is made of what is in range
+-- counts or pairs in range make a counter or a set
 pub some_made : {X : Type 0} (made : Option X) (P : Type 0) (value : X) → SomeIff made P value → P → IsSome made
 some_made None P value not_made p = absurd (not_made p)
 some_made (Some x) P value is p = refl

@@ -89,7 +89,7 @@ Joined line after told old count tells new = (raw : List ℕ) → Holds line aft
     → (here : List Entries) × NextSays count told (without_return raw) tells here
     × (new ≡ sum_after old here)
 
--- .. or it says nothing that a delta is, nor tells a replica as the first one
+-- .. or the line is faulty: it says no delta, nor does it name a replica as the first line
 abbrev Faulty : Line → Reading → ℕ → ℕ → Type 0
 Faulty line after count number = (raw : List ℕ) → Holds line after raw
     → ((here : List Entries) → ¬ Says (without_return raw) here) × (count ≡ 0 → TellsNone (without_return raw))
@@ -236,7 +236,7 @@ module _ (asked : Selection) (read : List ℕ) (before after : Reading) (told : 
         counted = number_of s.lines count number s.counted f.2;
       }
 
--- a fault, with what is known of the end of the input
+-- a fault, with what holds at the end of the input
 pub fault_ended : (P Q : Type 0) (read : List ℕ) (number : ℕ) → (P → Q) → FirstFault P read number
     → FirstFault Q read number
 fault_ended P Q read number known f = record {

@@ -1,4 +1,4 @@
--- What is squashed in part, where all is taken.
+-- Squashing in part, with the selection that takes everything.
 use Rattle.std.proofs.Common.{◌≡◌, ℕ, List, Option, None, ap, ap₂, ◌∙◌}
 use Rattle.ps_delta.specs.State.{State}
 use Rattle.ps_delta.specs.Deltas.{Entries, joined_history}

@@ -1,4 +1,4 @@
--- Definitions of the private functions; no contract of a public one cites them.
+-- What the contracts of private functions say. No contract of a public function cites these definitions.
 use Rattle.std.specs.Prelude.{◌≡◌, ◌≢◌, ◌⊎◌, ◌+◌, ◌-◌, ◌^◌, ◌<◌, ℕ, List, [], ◌∷◌, ◌++◌, length, min}
 use Rattle.std.specs.Prelude.{Bool, Contains, Option, Some, None, nat_lt, true, ⊤}
 use Rattle.std.specs.Option.{option_map_or}
@@ -22,22 +22,22 @@ use Rattle.ps_squash.specs.declared.fault.SquashFault.{SquashFault}
 use Rattle.ps_squash.specs.declared.selection.Selection.{Selection}
 use Rattle.ps_squash.specs.declared.fault.SquashFault.TheVariants as faults
 
--- what a first line is read as: nothing where it is silent; else the replica that it tells, or the delta that it says
+-- what a first line is read as: nothing if it is silent, the replica if it names one, or else its delta
 abbrev pub IsRead : List ℕ → Option KeptLine → Type 0
 IsRead line None = FirstSays line None []
 IsRead line (Some (kept_lines.Replica n)) = FirstSays line (Some n) []
 IsRead line (Some (kept_lines.Push d)) = FirstSays line None (d ∷ [])
 
--- what a line says after `count` lines: only the first may tell the replica
+-- what a line says after `count` lines: only the first line may name the replica
 abbrev pub NextSays : ℕ → Option ℕ → List ℕ → Option ℕ → List Entries → Type 0
 NextSays count before line after deltas =
     ((count ≡ 0) × FirstSays line after deltas) ⊎ ((0 < count) × (after ≡ before) × Says line deltas)
 
--- whether one delta more is taken
+-- whether the selection takes one more delta
 abbrev pub is_taken : Selection → Bool
 is_taken selection = option_map_or (λ n. nat_lt 0 n) selection.until true
 
--- what was joined so far, and what is still taken
+-- what was joined so far, and the selection for the deltas to come
 pub record Sum : Type 0 where
   pub state : State
   pub still : Selection
@@ -45,17 +45,17 @@ pub record Sum : Type 0 where
 abbrev pub sum_of : State → Selection → Sum
 sum_of state still = record { state = state; still = still }
 
--- before the first delta
+-- the sum before the first delta
 abbrev pub sum_before : Selection → Sum
 sum_before selection = sum_of empty_state selection
 
--- after these deltas more
+-- the sum after these deltas
 abbrev pub sum_after : Sum → List Entries → Sum
 sum_after sum deltas =
     sum_of (joined_state sum.state (joined_history (selected sum.still deltas)))
     (still_after sum.still (length deltas))
 
--- what is taken of the complete lines read was joined, and what remains is held
+-- after these bytes were read: what the selection takes of their complete lines was joined, and the buffer has the rest
 pub record StandsAfter (asked : Selection) (read : List ℕ) (pending : Option (List ℕ)) (told : Option ℕ) (sum : Sum)
     (count : ℕ) : Type 0 where
   pub lines : List (List ℕ)
@@ -67,13 +67,13 @@ pub record StandsAfter (asked : Selection) (read : List ℕ) (pending : Option (
   pub joined : sum ≡ sum_after (sum_before asked) deltas
   pub counted : count ≡ min (length lines) (2 ^ 64 - 1)
 
--- whatever came before, these bytes were taken in
+-- whatever was read before, reading these bytes leads from the first state to the second
 abbrev pub GoesOn : List ℕ → Option (List ℕ) → Option ℕ → Sum → ℕ → Option (List ℕ) → Option ℕ → Sum → ℕ → Type 0
 GoesOn bytes held first before count pending told sum number =
     (asked : Selection) → (read : List ℕ) → StandsAfter asked read held first before count
     → StandsAfter asked (read ++ bytes) pending told sum number
 
--- .. or one of the lines that ended among them is the first that says no delta
+-- .. or one of the lines that ended among these bytes is the first faulty one
 abbrev pub Fails : Type 0 → List ℕ → Option (List ℕ) → Option ℕ → Sum → ℕ → ℕ → Type 0
 Fails ended bytes held told before count number =
     (asked : Selection) → (read : List ℕ) → StandsAfter asked read held told before count
@@ -83,15 +83,15 @@ Fails ended bytes held told before count number =
 abbrev pub cell_size : ℕ × CellState → ℕ
 cell_size e = size (cell_value e)
 
--- .. with what comes after it: a comma or the last bracket
+-- .. with the byte after it: a comma or the last bracket
 abbrev pub ended_size : ℕ → ℕ
 ended_size n = 1 + n
 
--- one of the cells has no line by itself
+-- one of the cells alone is too long for a line
 abbrev pub HasWide : Entries → Type 0
 HasWide entries = (e : ℕ × CellState) × Contains entries e × ¬ FitsLine (e ∷ [])
 
--- the faults that a line has, and those of a source of lines
+-- the faults of taking in lines, and of reading a source of lines
 abbrev pub IsOfLines : SquashFault → Type 0
 IsOfLines faults.Memory = ⊤
 IsOfLines (faults.Line number) = ⊤
@@ -101,7 +101,8 @@ abbrev pub IsOfIntake : SquashFault → Type 0
 IsOfIntake faults.Source = ⊤
 IsOfIntake fault = IsOfLines fault
 
--- the text tells the replica, and pushes exactly the state, by deltas that divide cells in order
+-- the text names the replica, if there is one, and its change lines push exactly the state: their deltas divide the
+-- state's cells in order
 pub record IsText (told : Option ℕ) (state : State) (text : List ℕ) : Type 0 where
   pub fewer : List Entries
   pub cells : Entries
@@ -110,7 +111,7 @@ pub record IsText (told : Option ℕ) (state : State) (text : List ℕ) : Type 0
   pub spelled : text ≡ told_line told ++ push_lines fewer
   pub same : joined_history fewer ≡ state
 
--- after the earlier text, full lines push the first of the cells, and the rest is left
+-- after the earlier text stand full change lines for the first of the cells, and the cells `left` have none yet
 pub record AreWritten (cells left : Entries) (before text : List ℕ) : Type 0 where
   pub deltas : List Entries
   pub spelled : text ≡ before ++ push_lines deltas

@@ -1,4 +1,4 @@
--- What is taken of deltas: the first of them, without what one replica stamped; and what is written for that.
+-- What a selection takes of deltas: the first of them, without what one replica stamped; and what is written for these.
 use Rattle.std.specs.Prelude.{◌≡◌, ◌-◌, ◌==◌, ◌++◌, ◌∷◌, [], ℕ, List, Option, Some, None, if◌then◌else◌, not, take}
 use Rattle.std.specs.Prelude.{map as each, option_map}
 use Rattle.std.specs.FinMap as map
@@ -34,32 +34,33 @@ cell_without replica s = record {
   choice = pairs_without replica s.choice;
 }
 
--- the cells of a delta, each without that; one may be left with nothing
+-- the cells of a delta, each without all that this replica assigned, counted and chose; a cell may become empty
 abbrev pub delta_without : ℕ → Entries → Entries
 delta_without replica delta = each (λ e. (e.0, cell_without replica e.1)) delta
 
--- the first so many, or all where no number is given
+-- the first n deltas, or all of them where no number is given
 abbrev pub first_of : Option ℕ → List Entries → List Entries
 first_of None deltas = deltas
 first_of (Some n) deltas = take n deltas
 
--- each without what the replica stamped, where one is given
+-- each delta without what the replica stamped, where a replica is given
 abbrev pub each_without : Option ℕ → List Entries → List Entries
 each_without None deltas = deltas
 each_without (Some replica) deltas = each (delta_without replica) deltas
 
--- what is taken of deltas
+-- what the selection takes of deltas
 abbrev pub selected : Selection → List Entries → List Entries
 selected selection deltas = each_without selection.without (first_of selection.until deltas)
 
--- what is still taken after so many deltas
+-- the selection that remains after `count` deltas
 abbrev pub still_after : Selection → ℕ → Selection
 still_after selection count = record {
   until = option_map (λ n. n - count) selection.until;
   without = selection.without;
 }
 
--- the replica of the lines of the bytes, if the first one tells it, and the join of what is taken of what they say
+-- the replica that the first line of the bytes names, if it names one, and the join of what the selection takes of the
+-- lines
 pub record SelectedTogether (selection : Selection) (bytes : List ℕ) (told : Option ℕ) (state : State) : Type 0 where
   pub lines : List (List ℕ)
   pub rest : List ℕ
@@ -68,8 +69,9 @@ pub record SelectedTogether (selection : Selection) (bytes : List ℕ) (told : O
   pub said : SayAll (with_last lines rest) told deltas
   pub joined : state ≡ joined_history (selected selection deltas)
 
--- SQUASHED IN PART: the text begins with the line of the replica, if the first line of the bytes tells one. Then it
--- pushes as few deltas as the cells need of what is taken, each cell once and in order, which say the same together
+-- SQUASHED IN PART: the text begins with the line of the replica, if the first line of the bytes names one. Change
+-- lines follow, as few as possible. They have each cell of what the selection takes once, in order, and have the same
+-- join
 pub record IsSquashedInPart (selection : Selection) (bytes text : List ℕ) : Type 0 where
   pub told : Option ℕ
   pub state : State
@@ -81,7 +83,7 @@ pub record IsSquashedInPart (selection : Selection) (bytes text : List ℕ) : Ty
   pub spelled : text ≡ told_line told ++ push_lines fewer
   pub same : joined_history fewer ≡ state
 
--- the joined state of what is taken has a cell that no line has room for
+-- the joined state of what the selection takes has a cell that is too long for a line
 pub record HasWideCellInPart (selection : Selection) (bytes : List ℕ) : Type 0 where
   pub told : Option ℕ
   pub state : State

@@ -4,19 +4,19 @@ ghost use Rattle.ps_squash.specs.declared.fault.SquashFault.TheVariants.{Memory}
 
 use std::alloc::AllocError;
 
-/// Why lines aren't squashed.
+/// Why [`squash`](crate::squash) failed.
 #[derive(Clone, Copy, PartialEq, Eq)]
 pub enum SquashFault {
     /// Out of memory; nothing was written.
     Memory,
-    /// The line of this number, counted from 1, is no delta's; nothing was written. 2^64 - 1 stands for that number and
-    /// more.
+    /// The line with this number, counted from 1, is faulty: it isn't empty, has no digest, is no delta's line, and
+    /// isn't a first line that names the replica. Nothing was written. 2^64 - 1 stands for that number and more.
     Line(u64),
-    /// The join of a cell has no line, as its text is too long; nothing was written.
+    /// The joined state of one cell is too long for a line; nothing was written.
     TooLong,
     /// The source failed; nothing was written.
     Source,
-    /// The sink failed.
+    /// The sink failed; it may have a beginning of the text.
     Sink,
 }
 

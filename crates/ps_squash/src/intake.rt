@@ -1,4 +1,4 @@
-//! Joins the lines of a source as they come.
+//! Reads the lines of a source one after another, and joins what a selection takes of their deltas.
 ghost use Rattle.std.specs.Prelude.{◌≡◌, ◌⊎◌, ◌+◌, ◌-◌, ◌^◌, ◌<◌, ◌≤◌, ℕ, List, [], Err, IfOk, IfErr, OnOk, ⊤};
 ghost use Rattle.std.specs.Prelude.{Decides, None, Option, length, min, take};
 ghost use Rattle.std.specs.Io.KnownBytes.{Consumes, IsAtEnd};
@@ -23,7 +23,7 @@ use ps_lines::{KeptLine, Line, LineBuffer, is_digest_line, read_kept_line};
 use ps_wire::Decoder;
 use std::alloc::Global;
 
-/// The intake of a source: the line that is being read, and the join of what is taken of all lines before it.
+/// The state of reading a source: the line that is being read, and the join of what was taken of the lines before it.
 #[derive(Drop)]
 struct Intake {
     /// The allocator.
@@ -32,24 +32,25 @@ struct Intake {
     decoder: Decoder,
     /// The line that is being read.
     session: LineBuffer,
-    /// The replica that the first line tells.
+    /// The replica that the first line names, if it names one.
     told: Option<u8>,
-    /// The join of what is taken of the lines so far.
+    /// The join of what the selection takes of the lines so far.
     taken: Taken,
     /// The number of lines that have ended; 2^64 - 1 stands for that number and more.
     ended: u64,
 }
 
-/// Returns whether a line says nothing: it is empty, or has a digest.
+/// Returns whether a line is silent, that is, says nothing: it is empty, or has a digest.
 fn is_silent(line: &[u8]) -> bool
     ensures { Decides result (IsSilent line.now) }
 {
     line.is_empty() || is_digest_line(line)
 }
 
-/// Returns what a line says: that of a kept file, or a delta whose line it is without `push `; none if it is silent.
+/// Returns what a line says: a replica, or a delta with or without `push ` before it. Returns `None` if the line is
+/// silent.
 ///
-/// Fails as `Delta` if it says neither, and as `Memory`.
+/// Fails as `Delta` if the line is none of these, and as `Memory` when out of memory.
 fn read_line(alloc: Global, decoder: &mut Decoder, line: &[u8]) -> Result<Option<KeptLine>, Refusal>
     ensures read { IfOk result (IsRead line.now) }
     ensures faulty { result ≡ Err refusals.Delta → (deltas : List Entries) → ¬ Says line.now deltas }
@@ -65,9 +66,9 @@ fn read_line(alloc: Global, decoder: &mut Decoder, line: &[u8]) -> Result<Option
     }
 }
 
-/// Joins what is taken of what a line says, or returns the replica that it tells.
+/// Adds a line's delta to `taken`, or returns the replica that the line names. A silent line changes nothing.
 ///
-/// Fails as `Delta` if the line isn't silent, tells no replica and is no delta's, and as `Memory`.
+/// Fails as `Delta` if the line isn't silent, names no replica and is no delta's, and as `Memory` when out of memory.
 fn join_line(
     alloc: Global,
     decoder: &mut Decoder,
@@ -92,7 +93,7 @@ fn join_line(
 }
 
 impl Intake {
-    /// Joins what the held line says. Only the first line may tell a replica.
+    /// Joins what the line says that ended last. Only the first line may name a replica.
     fn join(&mut self) -> Result<(), Refusal>
         ensures joined { OnOk result ((deltas : List Entries)
             × NextSays self.old.ended self.old.told (without_return self.old.session.line) self.new.told deltas
@@ -120,7 +121,7 @@ impl Intake {
         Ok(())
     }
 
-    /// Takes in the line that has ended.
+    /// Takes in the line that has ended, and counts it.
     fn close(&mut self, line: Line) -> Result<(), SquashFault>
         ensures joined { OnOk result ((raw : List ℕ) → Holds line self.old.session raw
             → (deltas : List Entries)
@@ -151,7 +152,7 @@ impl Intake {
         Ok(())
     }
 
-    /// Takes in a piece up to its first line feed, and the line that it ends.
+    /// Takes in a piece up to its first line feed, and the line that ends there. Returns how many bytes it took.
     fn turn(&mut self, piece: &[u8]) -> Result<usize, SquashFault>
         requires some { 0 < length piece.now }
         ensures within { IfOk result (λ taken. (0 < taken) × (taken ≤ length piece.now)) }
@@ -175,7 +176,7 @@ impl Intake {
         }
     }
 
-    /// Takes in a whole piece, and each line that it ends.
+    /// Takes in a whole piece, and each line that ends in it.
     fn take_in(&mut self, piece: &[u8]) -> Result<(), SquashFault>
         ensures stands { OnOk result (GoesOn piece.now
             self.old.session.pending self.old.told
@@ -197,7 +198,7 @@ impl Intake {
         Ok(())
     }
 
-    /// Takes in what remains at the end of the input, if it is a line.
+    /// Takes in the last line of the input, if it has no line feed.
     fn finish(&mut self) -> Result<(), SquashFault>
         ensures together { OnOk result ((asked : Selection) → (read : List ℕ)
             → StandsAfter asked read self.old.session.pending self.old.told
@@ -218,7 +219,7 @@ impl Intake {
     }
 }
 
-/// Reads the source to its end, and takes in each line that ends there.
+/// Reads the source to its end, and takes in each line with a line feed.
 fn read_on<S: Source>(intake: &mut Intake, source: &mut S) -> Result<(), SquashFault>
     ensures read { OnOk result ((read : List ℕ)
         × Consumes (S.remaining source.old) (S.remaining source.new) read × IsAtEnd (S.remaining source.new)
@@ -253,13 +254,14 @@ fn read_on<S: Source>(intake: &mut Intake, source: &mut S) -> Result<(), SquashF
     }
 }
 
-/// Reads a source to its end, and returns the replica that its first line tells and the join of what is taken of its
-/// lines.
+/// Reads a source to its end, and returns the replica that its first line names, and the join of what `selection` takes
+/// of its lines.
 ///
-/// Fails as `Line` at the first line that isn't silent and is no delta's, unless it is the first of all and tells a
-/// replica. Fails as `Source` if the source fails, and as `Memory`.
+/// Fails as `Line` at the first faulty line: it isn't silent, is no delta's, and isn't a first line that names a
+/// replica. Fails as `Source` if the source fails, and as `Memory` when out of memory.
 ///
-/// Cost: that of the lines, of joining their deltas, the room of one line, and that of a decoder.
+/// Cost: that of reading the lines and of joining their deltas. It takes memory for the joined state, one line and a
+/// decoder.
 pub(crate) fn taken_in<S: Source>(
     alloc: Global,
     source: &mut S,
@@ -286,7 +288,7 @@ pub(crate) fn taken_in<S: Source>(
     }
 }
 
-/// Creates an intake that has taken in no line.
+/// Creates an intake that has read nothing.
 fn begin(alloc: Global, selection: Selection) -> Result<Intake, SquashFault>
     ensures stands { IfOk result (λ intake. StandsAfter selection [] intake.session.pending intake.told
         (sum_of (state_at intake.taken.state) intake.taken.still) intake.ended) }

@@ -1,4 +1,4 @@
-//! Writes cells as few lines.
+//! Writes cells as change lines, as few as possible.
 ghost use Rattle.std.specs.Prelude.{◌≡◌, ◌≢◌, ◌⊎◌, ◌+◌, ◌<◌, ◌≤◌, ◌++◌, List, Err, IfOk, IfErr, OnOk, length};
 ghost use Rattle.std.specs.Prelude.{◌∷◌, [], map as each, take, sum_by};
 ghost use Rattle.std.specs.List.{All};
@@ -17,11 +17,11 @@ use ps_lines::put_push_line;
 use ps_wire::{DELTA_LINE_LIMIT, encode};
 use std::alloc::Global;
 
-/// Appends the lines that push the cells, in order, each with as many cells as fit.
+/// Appends the change lines for these cells to `text`, in order, each with as many cells as fit.
 ///
-/// Fails as `TooLong` if one cell alone has no line, and as `Memory`.
+/// Fails as `TooLong` if one cell alone is too long for a line, and as `Memory` when out of memory.
 ///
-/// Cost: twice that of the text, and as much memory.
+/// Cost: twice that of the text, and memory for it.
 pub(crate) fn put_lines(
     alloc: Global,
     entries: &[(Cell, CellState)],
@@ -39,7 +39,7 @@ pub(crate) fn put_lines(
     }
 }
 
-/// Returns how many bytes the text of each cell has. Fails as `TooLong` if one of them has no line by itself.
+/// Returns how many bytes the text of each cell has. Fails as `TooLong` if one cell alone is too long for a line.
 fn sizes_of(alloc: Global, entries: &[(Cell, CellState)]) -> Result<Vec<usize>, Refusal>
     requires entries { AreEntries entries.now }
     ensures sizes { IfOk result (λ sizes. sizes.items ≡ each cell_size entries.now) }
@@ -57,7 +57,7 @@ fn sizes_of(alloc: Global, entries: &[(Cell, CellState)]) -> Result<Vec<usize>, 
     Ok(sizes)
 }
 
-/// Returns how many bytes the text of the cell has. Fails as `TooLong` if it has no line by itself.
+/// Returns how many bytes the text of the cell has. Fails as `TooLong` if the cell alone is too long for a line.
 fn size_of(alloc: Global, entry: &(Cell, CellState)) -> Result<usize, Refusal>
     requires some { entry.now.1 ≢ empty_cell }
     ensures size { IfOk result (λ n. n ≡ cell_size entry.now) }
@@ -96,7 +96,8 @@ fn delta_of(alloc: Global, entries: &[(Cell, CellState)]) -> Result<Delta, Refus
     Ok(delta.unwrap())
 }
 
-/// Appends the lines that push the cells, each with as many cells as fit; `sizes` are the lengths of their texts.
+/// Appends the change lines for these cells to `text`, each with as many cells as fit. `sizes` has the length of each
+/// cell's text.
 fn divide(
     alloc: Global,
     entries: &[(Cell, CellState)],
@@ -140,7 +141,7 @@ fn count_with_room(sizes: &[usize]) -> usize
     count
 }
 
-/// Appends the line that pushes the cells.
+/// Appends one change line with these cells to `text`.
 fn put_line(alloc: Global, cells: &[(Cell, CellState)], text: &mut Vec<u8>) -> Result<(), Refusal>
     requires delta { IsDelta cells.now }
     requires fits { FitsLine cells.now }

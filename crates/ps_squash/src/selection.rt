@@ -1,19 +1,19 @@
-//! What is taken of the lines that are read.
+//! Which part of the lines is squashed, and what is left out.
 ghost use Rattle.std.specs.Prelude.{◌≡◌, ◌∷◌, [], None};
 ghost use Rattle.ps_squash.specs.Inside.{is_taken};
 ghost use Rattle.ps_squash.specs.Selected.{still_after};
 
-/// What is taken of the lines that are read.
+/// The part of the lines that [`squash_in_part`](crate::squash_in_part) takes. A change line is a line with a delta.
 #[derive(Clone, Copy, Debug, PartialEq, Eq)]
 pub struct Selection {
-    /// How many change lines are taken, from the first on; all of them where there is none.
+    /// How many change lines are taken, from the first on; `None` takes all of them.
     pub until: Option<u64>,
-    /// The replica whose parts are left out of each; nothing is left out where there is none.
+    /// The replica whose assignments, counts and choices are left out of each delta; `None` leaves out nothing.
     pub without: Option<u8>,
 }
 
 impl Selection {
-    /// Returns the selection of everything.
+    /// Returns the selection that takes everything.
     pub fn all() -> Selection
         ensures until { result.until ≡ None }
         ensures without { result.without ≡ None }
@@ -24,7 +24,7 @@ impl Selection {
         }
     }
 
-    /// Counts one change line more, and returns whether it is taken.
+    /// Counts one more change line, and returns whether it is taken. The selection is then that of the lines after it.
     pub(crate) fn count_one(&mut self) -> bool
         ensures taken { result ≡ is_taken self.old }
         ensures still { self.new ≡ still_after self.old 1 }
@@ -40,13 +40,14 @@ impl Selection {
     }
 }
 
-/// What was left out of the lines that were read.
+/// What [`squash_in_part`](crate::squash_in_part) left out of the lines that it read.
 #[derive(Clone, Copy, Debug, PartialEq, Eq)]
 pub struct LeftOut {
     /// The number of change lines that were read; 2^64 - 1 stands for more, too.
     pub read: u64,
-    /// The number of them that were left out; 2^64 - 1 stands for more, too.
+    /// The number of change lines that were left out, as they come after the first `Selection::until`; 2^64 - 1 stands
+    /// for more, too.
     pub lines: u64,
-    /// The number of cells that lost a part.
+    /// The number of cells that lost an assignment, a count or a choice of the replica `Selection::without`.
     pub cells: u64,
 }

@@ -1,4 +1,4 @@
-//! The join of what is taken of deltas.
+//! The join of what a selection takes of deltas.
 ghost use Rattle.std.specs.Prelude.{◌≡◌, ◌∷◌, [], IfErr, IfOk, OnOk};
 ghost use Rattle.ps_grid.specs.declared.refusal.Refusal.TheVariants as refusals;
 ghost use Rattle.ps_delta.specs.State.{joined_state, state_at};
@@ -13,18 +13,18 @@ use ps_grid::{CELLS, Cell, Refusal};
 use ps_lattice::Join;
 use std::alloc::Global;
 
-/// The join of what is taken of the deltas so far.
+/// The join of what a selection takes of the deltas so far.
 #[derive(Drop)]
 pub(crate) struct Taken {
     /// The join.
     pub state: Grid,
-    /// What is still taken.
+    /// The selection of the deltas to come.
     pub still: Selection,
     /// The number of deltas so far; 2^64 - 1 stands for more, too.
     pub read: u64,
-    /// The number of deltas that were left out.
+    /// The number of deltas that were left out whole; 2^64 - 1 stands for more, too.
     pub passed: u64,
-    /// The cells that lost a part, by their index.
+    /// For each cell of the grid, by index, whether it lost a part of a replica; empty if no replica is left out.
     pub lost: Vec<bool>,
 }
 
@@ -50,7 +50,7 @@ impl Taken {
         })
     }
 
-    /// Joins what is taken of one delta more.
+    /// Counts one more delta, and joins what the selection takes of it.
     ///
     /// Fails as `Memory`.
     pub(crate) fn add(&mut self, alloc: Global, delta: &Delta) -> Result<(), Refusal>
@@ -87,7 +87,7 @@ impl Taken {
     }
 }
 
-/// Joins what a delta has without the parts of a replica, and marks each cell that lost a part.
+/// Joins a delta without the parts of a replica into `state`, and marks in `lost` each cell that lost a part.
 ///
 /// Fails as `Memory`.
 fn join_without(
@@ -109,7 +109,7 @@ fn join_without(
     Ok(())
 }
 
-/// Joins what a cell has without the parts of a replica, and marks it if it lost a part.
+/// Joins a cell without the parts of a replica into `state`, and marks the cell in `lost` if it lost a part.
 ///
 /// Fails as `Memory`.
 fn join_cell(
@@ -133,7 +133,7 @@ fn join_cell(
     state.join(alloc, &Delta::of_filled(entry.0, kept))
 }
 
-/// Marks a cell.
+/// Marks a cell, if there is a mark for each cell.
 fn mark(cell: Cell, marks: &mut Vec<bool>) {
     if let Some(is_marked) = marks.get_mut(cell.index()) {
         *is_marked = true;

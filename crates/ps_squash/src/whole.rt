@@ -19,24 +19,28 @@ use ps_grid::Refusal;
 use ps_lines::put_replica_line;
 use std::alloc::Global;
 
-/// Reads the delta lines of a source to its end, writes the lines that push their join, and flushes the sink.
+/// Reads the delta lines of a source to its end, writes the join of their deltas as few change lines, and flushes the
+/// sink.
 ///
-/// A line that is read may have the word `push` before its delta. An empty line and one with a digest, as
-/// `replica 0123456789abcdef`, say nothing, wherever they stand. Each line that is written has as many cells as fit.
-/// If the first line read is that of a kept file, such as `replica 1`, it is written before them. Nothing is written
-/// before all lines are read.
+/// - A delta that is read may have the word `push` before it. Each change line that is written has this word, and as
+///   many cells as fit.
+/// - An empty line and a line with a digest, such as `replica 0123456789abcdef`, say nothing, wherever they stand.
+/// - If the first line names the replica of a kept file, such as `replica 1`, it is written first.
+///
+/// Nothing is written before all lines are read.
 ///
 /// # Errors
 ///
-/// - `Line`: a line says something and is no delta's, nor tells a replica as the first line; the number is that of the
-///   first such line.
-/// - `TooLong`: a cell alone has no line; this takes lines that break the rules of sequences.
+/// - `Line`: the number of the first faulty line. It isn't empty, has no digest, is no delta's line, and isn't a first
+///   line that names the replica.
+/// - `TooLong`: the joined state of one cell is too long for a line. Only lines in which a replica uses one sequence
+///   for several options can make it so long, and no sheet writes such lines.
 /// - `Memory`: out of memory.
 /// - `Source`: the source failed.
-/// - `Sink`: the sink failed, after a beginning of the lines. After any other error nothing was written.
+/// - `Sink`: the sink failed, perhaps after a beginning of the text. After any other error nothing was written.
 ///
-/// Cost: that of the lines and of joining their deltas, the cells of the grid, and twice the text that is written;
-/// memory for the joined state, one line, and the text.
+/// Cost: that of reading the lines and of joining their deltas, of the cells of the grid, and of twice the text that is
+/// written. It takes memory for the joined state, one line, and the text.
 pub fn squash<S: Source, K: Sink>(
     alloc: Global,
     source: &mut S,
@@ -67,16 +71,17 @@ pub fn squash<S: Source, K: Sink>(
     }
 }
 
-/// Squashes a part of the lines of a source, as [`squash`] does all of them, and returns what was left out.
+/// Squashes the selected part of a source's lines, as [`squash`] does all of them, and returns what was left out.
 ///
-/// It takes the deltas of the first lines, as many as `selection.until` says. It takes them without what the replica
-/// `selection.without` assigned, counted and chose. The lines after them have to be deltas, too.
+/// It takes the deltas of the first `selection.until` change lines, without what the replica `selection.without`
+/// assigned, counted and chose. It also reads the lines after them, and refuses them if one is faulty.
 ///
 /// # Errors
 ///
 /// Those of [`squash`].
 ///
-/// Cost: that of [`squash`]; with `selection.without` also a copy of each delta, and one byte for each cell of the grid.
+/// Cost: that of [`squash`]. With `selection.without`, also a copy of each delta, and one byte for each cell of the
+/// grid.
 pub fn squash_in_part<S: Source, K: Sink>(
     alloc: Global,
     source: &mut S,
@@ -116,7 +121,7 @@ pub fn squash_in_part<S: Source, K: Sink>(
     }
 }
 
-/// Returns the lines that say what is taken of those of the source, after the line of their replica; and what isn't.
+/// Returns the text of the squashed lines, with the replica's line first if the source has one, and what was left out.
 fn squashed<S: Source>(
     alloc: Global,
     source: &mut S,
@@ -147,7 +152,7 @@ fn squashed<S: Source>(
     }
 }
 
-/// Returns the line of the replica, if there is one, and the lines that push the cells of a state.
+/// Returns the text of the replica's line, if there is a replica, and of the change lines for the cells of a state.
 fn text_of(alloc: Global, told: Option<u8>, state: &Grid) -> Result<Vec<u8>, Refusal>
     ensures same { IfOk result (λ text. IsText told (state_at state.now) text.items) }
     ensures wide { IfErr result (λ e. e ≡ refusals.TooLong
@@ -162,7 +167,7 @@ fn text_of(alloc: Global, told: Option<u8>, state: &Grid) -> Result<Vec<u8>, Ref
     }
 }
 
-/// Returns a text that begins with the line of a replica, if there is one.
+/// Returns the text of the replica's line, or an empty text if there is no replica.
 fn begun(alloc: Global, told: Option<u8>) -> Result<Vec<u8>, Refusal>
     ensures line { IfOk result (λ text. text.items ≡ told_line told) }
     ensures memory { IfErr result (λ e. e ≡ refusals.Memory) }

@@ -9,7 +9,7 @@ use ps_grid::{Refusal, Twin};
 use ps_lattice::{Choice, Count, Pair, Register, Tally};
 use std::alloc::{AllocError, Global};
 
-/// Returns the state of a cell without all that a replica assigned, counted and chose.
+/// Returns the state of a cell without what `replica` assigned, counted and chose.
 ///
 /// Fails as `Memory`.
 pub(crate) fn cell_without(
@@ -27,7 +27,7 @@ pub(crate) fn cell_without(
     Ok(CellState::from_parts(register, tally, choice))
 }
 
-/// Returns a register, unless the replica assigned it; then an empty one.
+/// Returns a copy of the register, or an empty one if the replica assigned it.
 fn register_without(
     alloc: Global,
     register: &Register<Content>,

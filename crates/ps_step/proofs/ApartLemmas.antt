@@ -11,12 +11,12 @@ use Rattle.ps_delta.specs.State.{AreTouched, State}
 use Rattle.ps_delta.proofs.CellLists.{Rising-push, increasing_from_rising}
 use Rattle.ps_step.specs.Inside.{AreApart}
 
--- a cell of a list is one of the list with one more
+-- a cell of a list is also in the list with one more cell
 pushed : (cells : List ℕ) (n c : ℕ) → In cells c → In (cells ++ n ∷ []) c
 pushed cells n c h =
     list_any-append (eqb c) cells (n ∷ []) ∙ or_left (list_any (eqb c) cells) (list_any (eqb c) (n ∷ [])) h
 
--- and so is the last one
+-- .. and the added cell is in it
 last_one : (cells : List ℕ) (n : ℕ) → In (cells ++ n ∷ []) n
 last_one cells n =
     list_any-append (eqb n) cells (n ∷ [])

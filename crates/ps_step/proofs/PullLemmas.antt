@@ -1,4 +1,4 @@
--- One group more of what a peer returns, and what it was asked for.
+-- One more group that a peer returns, and what the peer was asked for.
 use Rattle.std.proofs.Common.{◌≡◌, ◌∙◌, ℕ, List, [], ◌∷◌, ◌++◌, ap, arith, refl, subst, sym}
 use Rattle.std.specs.Io.KnownBytes.{Consumes}
 use Rattle.std.proofs.lemmas.List.Elements.{All-nil, All-push}
@@ -30,7 +30,7 @@ given_none peer state is = record {
 }
 
 module _ (first mid last : PeerView) (version : ℕ) (state : State) (given : HasGiven first mid version state) where
-  -- one group more, whose line is that of a delta
+  -- one more group, whose line is a delta
   pub given_more : (new : State) (text : List ℕ) (delta : Entries) (next : ℕ) → IsReplied (pull_text version) mid last
       → IsGroup version (without_return last.line) next text → IsLine text delta
       → new ≡ joined_state state (state_of delta) → HasGiven first last next new
@@ -49,7 +49,7 @@ module _ (first mid last : PeerView) (version : ℕ) (state : State) (given : Ha
     joined = is ∙ ap (λ s. joined_state s (state_of delta)) given.joined ∙ sym (joined_history-push given.deltas delta);
   }
 
-  -- whatever one more pull comes to
+  -- whatever the outcome of one more pull
   pub was_asked : PutsSome mid.asked last.asked (pull_text version) → TakesLine mid.to_come last.to_come
       → WasAsked first last
   was_asked put taken = record {

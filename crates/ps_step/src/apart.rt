@@ -17,7 +17,7 @@ fn holds_same(one: &CellState, other: &CellState) -> bool
     one.below(other) && other.below(one)
 }
 
-/// Adds the cell at the index to those before it, if two states differ there.
+/// Adds the cell at `index` to `cells`, if the two states differ there.
 fn add_cell(one: &Grid, other: &Grid, index: usize, cells: &mut Vec<Cell>) -> Result<(), Refusal>
     requires in_grid { index < CELLS }
     requires before { AreApart (state_at one.now) (state_at other.now) index cells.old.items }

@@ -1,4 +1,4 @@
-//! What two peers hold, compared.
+//! Compares what two peers hold.
 ghost use Rattle.std.specs.Prelude.{◌≡◌, ◌⊎◌, ◌<◌, Err, IfOk, OnOk};
 ghost use Rattle.ps_grid.specs.declared.refusal.Refusal.TheVariants as Refusal;
 ghost use Rattle.ps_peers.specs.declared.peer_pull.SyncFault.TheVariants.{Refused};
@@ -11,19 +11,21 @@ use ps_device::{Sink, Source};
 use ps_peers::{Peer, SyncFault};
 use std::alloc::Global;
 
-/// Pulls all that each of two peers has, the first one first, and finds the cells at which they differ.
+/// Pulls all that each of two peers has, first from `from`, and returns both versions and the cells at which the peers
+/// differ.
 ///
-/// It asks nothing else of them, so it changes nothing at either.
+/// It sends only pulls, so it changes nothing at either peer.
 ///
 /// # Errors
 ///
 /// - `Device`: a connection failed.
-/// - `Line`: a reply isn't due to its pull, or its line is that of no delta.
+/// - `Line`: a reply doesn't fit its pull or broke off, or its line is no delta.
 /// - `PeerRefused`: a peer replied `err`.
-/// - `Closed`: a peer closed before its end.
+/// - `Closed`: a peer closed before its `end`.
 /// - `Memory`: allocation failed.
 ///
-/// Cost: that of the lines and their joins, two states of the grid, and the cells of the grid.
+/// Cost: linear in the lines, with the join of each delta; then a comparison of each cell of the grid. It takes the
+/// memory of two states of the grid.
 pub fn compare<S: Source + Drop, K: Sink + Drop, T: Source + Drop, M: Sink + Drop>(
     alloc: Global,
     from: &mut Peer<S, K>,

@@ -1,4 +1,4 @@
-//! All that a peer has, pulled and joined.
+//! Pulls all that a peer has, and joins it.
 ghost use Rattle.std.specs.Prelude.{◌≡◌, ◌≢◌, ◌<◌, Err, IfErr, IfOk, OnOk};
 ghost use Rattle.ps_grid.specs.declared.refusal.Refusal.TheVariants as Refusal;
 ghost use Rattle.ps_delta.specs.Deltas.{Entries, state_of};
@@ -15,14 +15,14 @@ use ps_peers::{Due, Peer, SyncFault, next_due};
 use ps_wire::Decoder;
 use std::alloc::Global;
 
-/// What a peer holds: the join of all that it returned, and its version.
+/// What a peer holds: the join of all deltas that it returned, and its version.
 #[derive(Drop)]
 pub(crate) struct Holding {
     pub state: Grid,
     pub version: u64,
 }
 
-/// Joins the delta of a line into a state. Fails as `Line` if it is a line of no delta, and as `Memory`.
+/// Joins the delta of a line into a state. Fails as `Line` if the line is no delta, and as `Memory`.
 fn join_line(
     alloc: Global,
     decoder: &mut Decoder,
@@ -49,12 +49,12 @@ fn join_line(
 /// # Errors
 ///
 /// - `Device`: the connection failed.
-/// - `Line`: a reply isn't due to its pull, or its line is that of no delta.
+/// - `Line`: a reply doesn't fit its pull or broke off, or its line is no delta.
 /// - `PeerRefused`: the peer replied `err`.
-/// - `Closed`: the peer closed before its end.
+/// - `Closed`: the peer closed before its `end`.
 /// - `Memory`: allocation failed.
 ///
-/// Cost: that of the lines and their joins, and a state of the grid.
+/// Cost: linear in the lines, with the join of each delta, and the memory of a state of the grid.
 pub(crate) fn pull_all<S: Source + Drop, K: Sink + Drop>(
     alloc: Global,
     peer: &mut Peer<S, K>,

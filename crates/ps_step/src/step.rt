@@ -1,4 +1,4 @@
-//! How far two peers are apart, and the line that says so.
+//! The cells at which two peers differ, and the line that says so.
 ghost use Rattle.std.specs.Prelude.{◌≡◌, ◌∷◌, ◌++◌, [], Decides, IfOk, OnOk, decimal};
 ghost use Rattle.ps_grid.specs.Place.{cell_name};
 ghost use Rattle.ps_step.specs.Steps.{even_text, names_text, step_text, uneven_text};
@@ -7,15 +7,15 @@ use itoa::Buffer;
 use ps_grid::{Cell, NAME_BYTES};
 use std::alloc::{AllocError, Global};
 
-/// The most cells that a line names.
+/// The most cells that the line of a [`Step`] names.
 pub const MOST_NAMES: usize = 20;
 
-/// What was found of two peers.
+/// The outcome of a comparison of two peers.
 #[derive(Drop)]
 pub struct Step {
-    /// the version of the first one
+    /// the version of the first peer
     pub from: u64,
-    /// the version of the other one
+    /// the version of the other peer
     pub to: u64,
     /// the cells at which they differ, row by row
     pub apart: Vec<Cell>,
@@ -84,8 +84,9 @@ impl Step {
         self.apart.is_empty()
     }
 
-    /// Returns the line, with its line feed: `in step at` and both versions; else `differ`, the number of the cells
-    /// that differ, and the names of the first `MOST_NAMES`. Fails when out of memory.
+    /// Returns the outcome as a line, with its line feed. It is `in step at` and both versions if no cell differs. Else
+    /// it is `differ`, the number of cells that differ, and the names of the first [`MOST_NAMES`] of them. Fails when
+    /// out of memory.
     pub fn line(&self, alloc: Global) -> Result<Vec<u8>, AllocError>
         ensures { IfOk result (λ line. line.items ≡ step_text self.now.from self.now.to self.now.apart.items) }
     {

@@ -69,7 +69,7 @@ stands_after after_value = true
 stands_after after_comma = false
 stands_after after_key = false
 
--- a token at its place; one clause of a place tells a string that is a key, and so splits the tokens
+-- placing a token costs at most its width; a string that is a key has a clause of its own, which splits the tokens
 placed : (p : Place) (t : Token) (c : Bool) (k : Place → List Token) (w : ℕ)
     → ((next : Place) → cost (stands_after next) (k next) ≤ w)
     → cost (stands_after p) (place_token p t c k) ≤ width t + w

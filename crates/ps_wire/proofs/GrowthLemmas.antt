@@ -44,7 +44,7 @@ use Rattle.ps_wire.proofs.SizeLemmas.{ended, gone_digit, size_of_array, size_of_
 
 -- ---- bytes
 
--- items of which each takes no more
+-- an array is no longer than another if each of its items is no longer
 arrays_more : {X : Type 0} (f g : X → Data) → ((x : X) → size (f x) ≤ size (g x)) → (xs : List X)
     → size (array_of (map f xs)) ≤ size (array_of (map g xs))
 arrays_more f g each [] = omega arith
@@ -56,7 +56,7 @@ arrays_more f g each (x ∷ xs) =
       sum_by-le-sum_by (ended f) (ended g) (x ∷ xs) (λ y. omega (arith, each y)),
     )
 
--- items that take no more all together
+-- an array is no longer than another if its items together are no longer
 items_more : {X : Type 0} (f : X → Data) (xs ys : List X) → sum_by (ended f) xs ≤ sum_by (ended f) ys
     → size (array_of (map f xs)) ≤ size (array_of (map f ys))
 items_more f [] [] le = omega arith
@@ -147,7 +147,7 @@ is_less Equal e = cc
 is_less Greater e = cc
 
 module _ {K X : Type 0} (R : K → K → Ordering) (o : IsTotalOrder R) (w : K × X → ℕ) where
-  -- a value that isn't smaller than the one in its place
+  -- a value that isn't smaller than the value that it replaces
   put_more : (k : K) (v : X) (es : List (K × X))
       → ((x : X) → maps.find R k es ≡ Some x → (q : K) → w (q, x) ≤ w (q, v))
       → sum_by w es ≤ sum_by w (maps.put R k v es)

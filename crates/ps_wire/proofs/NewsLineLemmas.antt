@@ -1,4 +1,4 @@
--- What is new of a delta is in range where the delta is, and its line is no longer.
+-- The news of a delta, which is what the delta adds to a state, is in range if the delta is, and has no longer line.
 use Rattle.std.proofs.Common.{◌≡◌, ◌≢◌, ◌⊎◌, inl, inr, ℕ, ◌<◌, ◌≤◌, Bool, true, false, ◌&&◌, ◌||◌}
 use Rattle.std.proofs.Common.{List, [], ◌∷◌, length, map, Option, Some, None, refl, sym, ap, subst, ◌∙◌, arith}
 use Rattle.std.proofs.lemmas.Bool.{cases_eq, cases_lt}
@@ -155,7 +155,7 @@ module _ {K X : Type 0} (R : K → K → Ordering) (g : Option X → X → Optio
     (fits : K × X → Bool)
     (keeps : (there : Option X) (e : K × X) (x : X) → fits e ≡ true → g there e.1 ≡ Some x → fits (e.0, x) ≡ true)
   where
-    -- what is new of entries in order and in range is so
+    -- the news of entries in order and in range is in order and in range
     entries_in_range : (s d n : maps.FinMap R X) → IsNewsOf (joined_maps f) s d n
         → (maps.is_sorted R (maps.entries d) && list_all fits (maps.entries d)) ≡ true
         → (maps.is_sorted R (maps.entries n) && list_all fits (maps.entries n)) ≡ true
@@ -175,7 +175,7 @@ module _ {K X : Type 0} (R : K → K → Ordering) (g : Option X → X → Optio
 
 -- ---- cells
 
--- the state t of a delta's cell, of which s is new
+-- s is the news of the state t of a delta's cell
 record IsNewCell (s t : CellState) : Type 0 where
   under : IsUnder s t
   register : (s.register ≡ None) ⊎ (s.register ≡ t.register)

@@ -8,11 +8,11 @@ no_unsigned : (b : Bool) (x : Num) (k : ℕ) → (x ≡ unsigned k → ⊥) → 
 no_unsigned true x k other e = other cc
 no_unsigned false x k other e = cc
 
--- what is kept as a float isn't a number without a sign
+-- a number that is stored as a float isn't a whole number without a sign
 pub no_float : (p : Parts) (sign : Bool) (k : ℕ) → float_of sign p ≡ Some (unsigned k) → ⊥
 no_float p sign k e = no_unsigned _ _ k (λ (f : _). cc) e
 
--- .. nor is what has a minus
+-- .. nor is a number with a minus
 pub negative_refused : (p : Parts) (k : ℕ) (b : Bool) (z : ℤ) → cond b (Some (negative z)) (float_of true p)
     ≡ Some (unsigned k)
     → ⊥

@@ -1,4 +1,4 @@
--- What the contents of cells take at least in a line of deltas joined, whichever of these contents stay.
+-- The fewest bytes that the contents of cells take in a line of joined deltas, whichever contents the join keeps.
 use Rattle.std.proofs.Common.{◌≡◌, ◌≢◌, ◌⊎◌, inl, inr, ℕ, zero, suc, ◌+◌, ◌-◌, ◌<◌, ◌≤◌, ◌/◌, ◌%◌, refl, sym, ap, subst}
 use Rattle.std.proofs.Common.{◌∙◌, arith, Bool, true, false, cond, if◌then◌else◌, Option, Some, None, List, [], ◌∷◌}
 use Rattle.std.proofs.Common.{map, length, take, get_or, set, ◌++◌, length-append}
@@ -109,7 +109,7 @@ text_least w delta some above =
 
 -- ---- a floor holds for what is joined
 
--- a cell state that is empty, or takes so much
+-- the cell state is empty, or takes at least so many bytes
 abbrev IsOver : ℕ → CellState → Type 0
 IsOver floor state = (state ≡ empty_cell) ⊎ (floor ≤ cell_floor state)
 
@@ -118,7 +118,7 @@ one_of : (t : Bool) (x y : Assignment Content)
 one_of true x y = inr refl
 one_of false x y = inl refl
 
--- of two registers one stays
+-- the join of two registers is one of them
 one_stays : (a b : Option (Assignment Content))
     → (joined_registers content_cmp a b ≡ a) ⊎ (joined_registers content_cmp a b ≡ b)
 one_stays None b = inr refl
@@ -184,7 +184,7 @@ has_cell (e ∷ es) c some = elim (cases_eq e.0 c) [
       (suc rest.0, omega (arith, rest.1), rest.2)
 ]
 
--- what is below a state that is empty there is empty there
+-- a state below one whose cell is empty has this cell empty, too
 empty_below : (s t : CellState) → joined_cell t s ≡ t → t ≡ empty_cell → s ≡ empty_cell
 empty_below s t below none = sym (joined_cell-empty s) ∙ ap (λ x. joined_cell x s) (sym none) ∙ below ∙ none
 
@@ -201,11 +201,11 @@ listed_joint ds joint joined lawful i x within j y inside =
     (sym at ∙ empty_below (state_of d e.0) (joined_history ds e.0) under
     (ap (λ (s : State). s e.0) (sym joined) ∙ none)))
 
--- what holds of the first so many holds of fewer
+-- what holds of the first n items holds of the first m, if m isn't greater
 first_fewer : {X : Type 0} (P : X → Type 0) (xs : List X) (m n : ℕ) → m ≤ n → All P (take n xs) → All P (take m xs)
 first_fewer P xs m n le all = subst (All P) (take-take m n xs le) (All-take P m (take n xs) all)
 
--- so many deltas, and any more, have no line together
+-- if the floors of the first n + 1 deltas take too much, the first k deltas have no line together, for each k above n
 pub no_line : (floors : List ℕ) (ds : List Entries) (n k : ℕ) → AreFloors floors ds → n < k
     → Overspends (λ listed. All (AreListed listed) (take (n + 1) ds)) floors (DELTA_LINE_LIMIT - 1)
     → HasNoLine (take k ds)
@@ -281,7 +281,7 @@ lower_set floors at new inside le c = elim (cases_eq c at) [
   | inr other ↦ omega (arith, get_or-set_other floors at c new 0 other)
 ]
 
--- lower floors hold for what floors hold for
+-- where floors hold, lower floors hold, too
 pub above_lower : (before after : List ℕ) (cells : Entries) → ((c : ℕ) → floor_at after c ≤ floor_at before c)
     → AreAbove before cells → AreAbove after cells
 above_lower before after cells lower above k d within =
@@ -367,7 +367,7 @@ module _ (ds : List Entries) (n : ℕ) (d : Entries) (before floors : List ℕ) 
         over listed rising (last_listed listed has),
       )
 
--- what was lent whole comes back whole
+-- a list that others were appended to is taken off whole
 pub given_back : (n : ℕ) (xs ys : List ℕ) → length xs ≡ n → take n (xs ++ ys) ≡ xs
 given_back n xs ys long = take-append-le n xs ys (omega (arith, long)) ∙ take_all n xs (omega (arith, long))
 

@@ -67,7 +67,7 @@ module _ {X : Type 0} (f : X → Data) where
   size_of_none [] none = omega arith
   size_of_none (x ∷ xs) none = absurd (omega (arith, none))
 
-  -- the walk over the items: of the room there is left what they don't take
+  -- code that goes through the items, and keeps count of the room that they leave
   module _ (xs : List X) (i : ℕ) (x : X) (left room : ℕ) (within : i < length xs) (is : x ≡ get_or xs i x)
       (so_far : left + 1 + sum_by ended (take i xs) ≡ room) where
     one_more : sum_by ended (take (i + 1) xs) ≡ sum_by ended (take i xs) + (1 + size (f x))

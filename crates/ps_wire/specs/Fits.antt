@@ -11,33 +11,35 @@ use Rattle.ps_wire.specs.declared.TheConstants.{DELTA_LINE_LIMIT}
 use Rattle.ps_wire.specs.Value.{IsLawful}
 use Rattle.ps_wire.specs.Line.{delta_text, IsLine}
 
--- the compact text is short enough for a line
+-- the delta's compact text is short enough for a line
 abbrev pub FitsLine : Entries → Type 0
 FitsLine delta = length (delta_text delta) ≤ DELTA_LINE_LIMIT
 
--- no counts and no pairs, as in the state that an assigned content makes
+-- the state has no counts and no pairs, as the state that an assigned content makes
 pub record HasRegisterAlone (state : CellState) : Type 0 where
   pub tally : state.tally ≡ map.empty
   pub choice : state.choice ≡ map.empty
 
--- at most as many cells as a row has, each with a register alone: what a batch of contents makes
+-- LAW: a delta of at most as many cells as a row has, each with a register alone, fits a line. A batch of contents
+-- makes such a delta
 abbrev pub BatchesFit : Type 0
 BatchesFit =
     (delta : Entries) → IsLawful delta → length delta ≤ COLUMNS → All (λ e. HasRegisterAlone e.1) delta → FitsLine delta
 
--- one cell, with any register, any counts, and any pairs of one option: what each edit of one cell makes
+-- LAW: a delta of one cell, with any register, any counts, and any pairs of one option, fits a line. Each edit of one
+-- cell makes such a delta
 abbrev pub EditsFit : Type 0
 EditsFit =
     (cell : ℕ) (state : CellState) (option : ℕ) → IsLawful ((cell, state) ∷ [])
     → All (λ p. p.0.option ≡ option) (map.entries state.choice) → FitsLine ((cell, state) ∷ [])
 
--- the text of what was read from a line is no longer than the line
+-- LAW: the compact text of a delta that was read from a line is no longer than the line, and fits one
 abbrev pub DecodedFit : Type 0
 DecodedFit =
     (bytes : List ℕ) (delta : Entries) → IsLine bytes delta
     → (length (delta_text delta) ≤ length bytes) × FitsLine delta
 
--- the news of a delta that has a line has one: it is in range as the delta is, and its text is no longer
+-- LAW: the news of a delta, which is what the delta adds to a state, is in range as the delta is. Its text is no longer
 abbrev pub NewsFit : Type 0
 NewsFit =
     (s : State) (delta news : Entries) → IsLawful delta → IsDelta news

@@ -1,5 +1,5 @@
--- How long the text of a delta is, how much of it stays whatever the delta is joined with, and when no line has room
--- for that.
+-- How long the text of a delta is, how much of the text every join with the delta keeps, and when no line has room for
+-- this part.
 use Rattle.std.specs.Prelude.{◌≡◌, ℕ, ◌<◌, List, [], ◌∷◌, map as each, length}
 use Rattle.std.specs.FinMap as map
 use Rattle.serde_json.specs.Data.{Data, null, string}
@@ -16,17 +16,17 @@ use Rattle.ps_wire.specs.declared.TheConstants.{DELTA_LINE_LIMIT}
 abbrev pub size : Data → ℕ
 size value = length (compact_text value)
 
--- the value of a cell where its register is null; what else the cell holds, joins never shorten
+-- the value of a cell with its register as null; joins never shorten the text of this value
 abbrev pub bare_value : ℕ × CellState → Data
 bare_value e =
     array_of (string (cell_name e.0) ∷ null ∷ array_of (each count_value (map.entries e.1.tally))
     ∷ array_of (each pair_value (map.entries e.1.choice)) ∷ [])
 
--- how long the text of a delta is where each register is null
+-- how long the text of a delta is with each register as null
 abbrev pub lasting_size : Entries → ℕ
 lasting_size delta = size (array_of (each bare_value delta))
 
--- no delta that this one is below has a line
+-- no delta that holds all of this one has a line
 abbrev pub OutgrowsLine : Entries → Type 0
 OutgrowsLine delta =
     (more : Entries) → IsDelta more → IsBelow (state_of delta) (state_of more)

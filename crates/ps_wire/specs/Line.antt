@@ -18,7 +18,7 @@ pub record IsLine (bytes : List ℕ) (delta : Entries) : Type 0 where
   pub read : read bytes ≡ Some (delta_value delta)
   pub lawful : IsLawful delta
 
--- no byte is a line feed
+-- the text has no line feed
 abbrev pub IsOneLine : List ℕ → Type 0
 IsOneLine text = All (λ b. b ≢ 10) text
 

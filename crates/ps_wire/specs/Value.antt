@@ -33,7 +33,7 @@ register_value (Some a) = array_of (whole a.time ∷ whole a.replica ∷ string 
 abbrev pub count_value : ℕ × Count → Data
 count_value e = array_of (whole e.0 ∷ whole e.1.added ∷ whole e.1.subtracted ∷ [])
 
--- 0 for a pair that is added alone, 1 for one that is removed too
+-- 0 for a pair that was only added, 1 for one that was also removed
 abbrev pub gone_number : Bool → ℕ
 gone_number false = 0
 gone_number true = 1
@@ -43,7 +43,7 @@ abbrev pub pair_value : Pair × Bool → Data
 pair_value e =
     array_of (whole e.0.option ∷ whole e.0.replica ∷ whole e.0.sequence ∷ whole (gone_number e.1) ∷ [])
 
--- the name of the cell, its register, its counters and its pairs
+-- the name of the cell, its register, the counts of its counter and the pairs of its set
 unfoldable pub cell_value : ℕ × CellState → Data
 cell_value e =
     array_of (string (cell_name e.0) ∷ register_value e.1.register
@@ -53,7 +53,7 @@ cell_value e =
 unfoldable pub delta_value : Entries → Data
 delta_value delta = array_of (each cell_value delta)
 
--- nothing, or a stamp in range and a content that there is
+-- the register holds nothing, or an assignment with a stamp in range and a valid content
 abbrev pub IsRegister : Option (Assignment Content) → Type 0
 IsRegister register = IfSome register (λ a. IsTrue (is_stamp a.time a.replica) × IsContent a.content)
 
@@ -74,10 +74,10 @@ pub record StandsFor (value : Data) (delta : Entries) : Type 0 where
   pub lawful : IsLawful delta
   pub spelled : value ≡ delta_value delta
 
--- no two values for one delta
+-- LAW: no two values stand for one delta
 abbrev pub OneValue : Type 0
 OneValue = (delta : Entries) (v w : Data) → StandsFor v delta → StandsFor w delta → v ≡ w
 
--- no two deltas for one value
+-- LAW: no two deltas stand for one value
 abbrev pub OneDelta : Type 0
 OneDelta = (value : Data) (d e : Entries) → StandsFor value d → StandsFor value e → d ≡ e

@@ -1,7 +1,8 @@
 //! Reads lines in the form that `encode` writes, by a guess.
 //!
-//! No contract says what a guess is. A guessed delta is taken only if the text that serde_json writes for it has the
-//! bytes of the line, one by one. Every other line is left to serde_json's reader, so a wrong guess costs time alone.
+//! No contract says which delta a guess returns. A guessed delta is accepted only if the text that serde_json writes
+//! for it has the bytes of the line, one by one. Every other line is left to serde_json's reader, so a wrong guess
+//! costs only time.
 
 ghost use Rattle.std.specs.Prelude.{◌≡◌, IfOk, IfErr, IfSome};
 ghost use Rattle.ps_grid.specs.declared.refusal.Refusal.TheVariants.{Memory};
@@ -14,11 +15,11 @@ use ps_grid::{Cell, Refusal, read_digits};
 use ps_lattice::{Assignment, Choice, Count, Pair, Register, Tally};
 use std::alloc::{AllocError, AllocFailed, Global};
 
-/// The most bytes of formulas that are guessed in one line, more than a row's cells have. A wrong guess has formulas
-/// read twice, so this bounds the cost of a refused line.
+/// The most bytes of formulas that a guess reads in one line; the formulas of a row's cells have fewer. After a wrong
+/// guess formulas are read again, so this bounds the cost of a refused line.
 const FORMULA_BYTES: usize = 65_536;
 
-/// Reads a line in the form that `encode` writes. Returns `None` if the line may have another form.
+/// Returns the delta of a line in the form that `encode` writes, or `None` if the line may have another form.
 pub(crate) fn read_compact(alloc: Global, line: &[u8]) -> Result<Option<Delta>, Refusal>
     ensures reads { IfOk result (λ found. IfSome found (ReadsAs line.now)) }
     ensures memory { IfErr result (λ e. e ≡ Memory) }
@@ -30,7 +31,7 @@ pub(crate) fn read_compact(alloc: Global, line: &[u8]) -> Result<Option<Delta>, 
     }
 }
 
-/// Returns the guessed delta if serde_json's text of it is the line.
+/// Returns the guessed delta if the text that serde_json writes for it is the line; else `None`.
 fn confirm(alloc: Global, delta: Delta, line: &[u8]) -> Result<Option<Delta>, Refusal>
     ensures reads { IfOk result (λ found. IfSome found (ReadsAs line.now)) }
     ensures memory { IfErr result (λ e. e ≡ Memory) }
@@ -48,7 +49,7 @@ fn confirm(alloc: Global, delta: Delta, line: &[u8]) -> Result<Option<Delta>, Re
 enum Miss {
     /// The line has another form, or stands for no delta.
     OtherForm,
-    /// A call failed, out of memory.
+    /// A call was refused, out of memory.
     Refused(Refusal),
 }
 
@@ -86,7 +87,7 @@ fn guess(alloc: Global, line: &[u8]) -> Result<Delta, Miss> {
     made(Delta::new(alloc, cells))
 }
 
-/// Returns what a call made that fails only when out of memory.
+/// Returns the value that a call made. Without one the line has another form, or the call was refused, out of memory.
 #[inline(always)]
 fn made<T>(answer: Result<Option<T>, Refusal>) -> Result<T, Miss> {
     match answer {
@@ -128,7 +129,7 @@ impl<'a> Rest<'a> {
         }
     }
 
-    /// Takes the bytes before the first `byte`, and skips that.
+    /// Takes the bytes before the first `byte`, and skips this one.
     #[inline(always)]
     fn until(&mut self, byte: u8) -> Result<&'a [u8], Miss> {
         let Some(len) = self.bytes.iter().position(|b| *b == byte) else {
@@ -140,13 +141,13 @@ impl<'a> Rest<'a> {
         Ok(before)
     }
 
-    /// Takes the number before the first `end`, and skips that.
+    /// Takes the number before the first `end`, and skips `end`.
     #[inline(always)]
     fn number(&mut self, end: u8) -> Result<u64, Miss> {
         read_digits(self.until(end)?).ok_or(Miss::OtherForm)
     }
 
-    /// Takes the number of 8 bits before the first `end`, and skips that.
+    /// Takes the number of 8 bits before the first `end`, and skips `end`.
     #[inline(always)]
     fn short(&mut self, end: u8) -> Result<u8, Miss> {
         u8::try_from(self.number(end)?).ok().ok_or(Miss::OtherForm)
@@ -167,7 +168,7 @@ impl<'a> Rest<'a> {
         Ok((cell, CellState::from_parts(register, tally, choice)))
     }
 
-    /// Takes a register: an array, or any four bytes that stand for `null`.
+    /// Takes a register: an array, or else four bytes. It supposes that these are `null`, and [`confirm`] finds others.
     #[inline(always)]
     fn register(&mut self, alloc: Global) -> Result<Register<Content>, Miss> {
         if !self.skip(b'[') {
@@ -187,7 +188,7 @@ impl<'a> Rest<'a> {
         Register::from_parts(assignment).ok_or(Miss::OtherForm)
     }
 
-    /// Takes a canonical text, in which no byte is escaped, and the quote after it.
+    /// Takes a content's canonical text, in which no byte is escaped, and the quote after it.
     #[inline(always)]
     fn content(&mut self, alloc: Global) -> Result<Content, Miss> {
         let text = self.until(b'"')?;
@@ -247,7 +248,7 @@ impl<'a> Rest<'a> {
         made(Choice::from_parts(alloc, pairs))
     }
 
-    /// Takes a pair, and whether it is gone.
+    /// Takes a pair, and whether it is gone. It supposes that the last number is 0 or 1, and [`confirm`] finds others.
     #[inline(always)]
     fn pair(&mut self) -> Result<(Pair, bool), Miss> {
         self.expect(b'[')?;

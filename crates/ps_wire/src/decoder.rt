@@ -1,4 +1,4 @@
-//! Deltas from lines: by a guess that serde_json confirms, or else from the value that serde_json reads.
+//! Reads deltas from lines: by a guess that serde_json confirms, or else from the value that serde_json reads.
 
 ghost use Rattle.std.specs.Prelude.{◌≡◌, ◌⊎◌, ◌<◌, ◌≤◌, length, Some, None, IsUtf8, IfOk, IfErr, MatchResult};
 ghost use Rattle.serde_json.specs.Read.{read as read_text};
@@ -28,22 +28,22 @@ impl Decoder {
         Decoder {}
     }
 
-    /// Returns the delta of a line: of any JSON text of its value, with any blanks and escapes, in at most
-    /// `DELTA_LINE_LIMIT` bytes of UTF-8. A refusal has no effect on the next line.
+    /// Returns the delta that the line `bytes` stands for. The line is JSON in any spelling, with any blanks and
+    /// escapes, in at most `DELTA_LINE_LIMIT` bytes of UTF-8. A refusal has no effect on the next line.
     ///
     /// # Errors
     ///
-    /// - `Delta` for any other bytes.
-    /// - `Memory` if allocation fails.
+    /// - `Delta`: the bytes are no delta's line.
+    /// - `Memory`: out of memory.
     ///
-    /// Cost: b, for b bytes of the line. Memory for the delta and its text, if the line is as `encode` writes it; else
-    /// for the JSON value and the delta.
+    /// Cost: O(b) in the b bytes of the line. It takes memory for the delta and its text if the line is as `encode`
+    /// writes it; else for the JSON value and the delta.
     pub fn decode(&mut self, alloc: Global, bytes: &[u8]) -> Result<Delta, Refusal>
         ensures line { IfOk result (λ d. IsLine bytes.now d) }
         ensures read { (d : Entries) → IsLine bytes.now d
             → MatchResult result (λ found. found ≡ d) (λ e. e ≡ Memory) }
         ensures refused { IfErr result (λ e. (e ≡ Refusal.Delta) ⊎ (e ≡ Memory)) }
-        // such a line takes no memory
+        // a line that is too long takes no memory
         ensures too_long { DELTA_LINE_LIMIT < length bytes.now → result ≡ Err Refusal.Delta }
     {
         if bytes.len() > DELTA_LINE_LIMIT {
@@ -98,7 +98,7 @@ fn read_value(alloc: Global, bytes: &[u8]) -> Result<Value, Refusal>
 
 /// Returns the delta of a line, as [`Decoder::decode`] does.
 ///
-/// It is for callers with a single line; the program's sessions have a [`Decoder`].
+/// It is for callers with a single line. A session has a [`Decoder`].
 ///
 /// # Errors
 ///
@@ -109,7 +109,7 @@ pub fn decode(alloc: Global, bytes: &[u8]) -> Result<Delta, Refusal>
     ensures line { IfOk result (λ d. IsLine bytes.now d) }
     ensures read { (d : Entries) → IsLine bytes.now d → MatchResult result (λ found. found ≡ d) (λ e. e ≡ Memory) }
     ensures refused { IfErr result (λ e. (e ≡ Refusal.Delta) ⊎ (e ≡ Memory)) }
-    // such a line takes no memory
+    // a line that is too long takes no memory
     ensures too_long { DELTA_LINE_LIMIT < length bytes.now → result ≡ Err Refusal.Delta }
 {
     Decoder::new(alloc).decode(alloc, bytes)

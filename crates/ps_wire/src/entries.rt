@@ -17,10 +17,10 @@ use std::alloc::Global;
 
 /// An entry of a counter or of a set.
 pub(crate) trait Entry: Copy {
-    // the value that stands for it
+    // the JSON value that stands for the entry
     ghost spelled: { Self → Data };
 
-    // whether it is in its ranges
+    // whether the entry is in its ranges
     ghost is_good: { Self → Bool };
 
     /// Reads the entry that the value stands for. It may return an entry out of its ranges.
@@ -30,7 +30,7 @@ pub(crate) trait Entry: Copy {
             ((e : Self) → IsTrue (is_good e) → view value.now ≡ spelled e → ⊥)) };
 }
 
-/// A replica with its two counts.
+/// An entry of a counter: a replica with its two counts.
 impl Entry for (u8, Count) {
     ghost spelled = { count_value };
 
@@ -46,7 +46,7 @@ impl Entry for (u8, Count) {
     }
 }
 
-/// A pair, and whether it is gone.
+/// An entry of a set: a pair, and whether it is gone.
 impl Entry for (Pair, bool) {
     ghost spelled = { pair_value };
 
@@ -77,7 +77,7 @@ pub(crate) fn read_entries<E: Entry>(alloc: Global, value: &Value) -> Result<Vec
     Ok(entries)
 }
 
-/// Reads whether a pair is gone: 0 if it was only added, 1 if it was also removed.
+/// Reads whether a pair is gone: 0 stands for a pair that was only added, 1 for one that was also removed.
 fn read_gone(value: &Value) -> Result<bool, Refusal>
     ensures found { IfOk result (λ b. view value.now ≡ whole (gone_number b)) }
     ensures refused { IfErr result (λ r. RefusedSince r ((b : Bool) → view value.now ≡ whole (gone_number b) → ⊥)) }

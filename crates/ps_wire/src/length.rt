@@ -20,11 +20,13 @@ use ps_delta::{CellState, Delta};
 use ps_grid::{Cell, NAME_BYTES};
 use ps_lattice::{Count, Pair, Register};
 
-/// Returns whether no join with the delta has a line.
+/// Returns true if the delta holds so much that no join with it has a line.
 ///
-/// It counts the text with each register null, since a join may take a shorter register. Joins never shorten the rest.
+/// It counts the delta's text with each register as `null`, since a join may bring a shorter register. Joins never
+/// shorten the rest. If the result is false, a join with a line may exist or not.
 ///
-/// Cost: that of the cells, counts and pairs for which a line has room, however many there are; it takes no memory.
+/// Cost: at most that of the cells, counts and pairs that one line can hold, however many the delta has. It takes no
+/// memory.
 pub fn outgrows_line(delta: &Delta) -> bool
     ensures lasting { IsTrue result ↔ (DELTA_LINE_LIMIT < lasting_size delta.now) }
     ensures outgrows { OnTrue result (OutgrowsLine delta.now) }
@@ -35,7 +37,8 @@ pub fn outgrows_line(delta: &Delta) -> bool
     }
 }
 
-/// Returns what the cells with their registers null leave of `room` bytes, or `None` if their text is longer.
+/// Returns how many of `room` bytes the text of the cells leaves, each with its register as `null`; `None` if the text
+/// is longer.
 fn bare_cells_left(cells: &[(Cell, CellState)], room: usize) -> Option<usize>
     requires { 0 < length cells.now }
     ensures { SomeIff result (size (array_of (each bare_value cells.now)) ≤ room)
@@ -49,7 +52,8 @@ fn bare_cells_left(cells: &[(Cell, CellState)], room: usize) -> Option<usize>
     Some(left)
 }
 
-/// Returns what the cell with its register null leaves of `left` bytes, or `None` if its text is longer.
+/// Returns how many of `left` bytes the text of the cell leaves, with its register as `null`; `None` if the text is
+/// longer.
 fn bare_left(cell: &(Cell, CellState), left: usize) -> Option<usize>
     ensures { SomeIff result (size (bare_value cell.now) ≤ left) (left - size (bare_value cell.now)) }
 {
@@ -64,7 +68,7 @@ pub(crate) trait Part {
     // the value that stands for it
     ghost spelled: { Self → Data };
 
-    /// Returns what its text leaves of `left` bytes, or `None` if it is longer.
+    /// Returns how many of `left` bytes the part's text leaves, or `None` if the text is longer.
     fn left_after(&self, left: usize) -> Option<usize>
         ensures { SomeIff result (size (spelled self.now) ≤ left) (left - size (spelled self.now)) };
 }
@@ -104,7 +108,7 @@ impl Part for (Cell, CellState) {
     }
 }
 
-/// Returns what the text of an array leaves of `room` bytes, or `None` if it is longer.
+/// Returns how many of `room` bytes the text of an array of these parts leaves, or `None` if the text is longer.
 pub(crate) fn array_left<P: Part>(parts: &[P], room: usize) -> Option<usize>
     ensures { SomeIff result (size (array_of (each P.spelled parts.now)) ≤ room)
         (room - size (array_of (each P.spelled parts.now))) }
@@ -120,7 +124,7 @@ pub(crate) fn array_left<P: Part>(parts: &[P], room: usize) -> Option<usize>
     Some(left)
 }
 
-/// Returns how long the name of a cell is, as a JSON value.
+/// Returns how many bytes the name of a cell takes as a JSON string.
 fn name_size(cell: Cell) -> usize
     ensures value { result ≡ size (string (cell_name cell)) }
     ensures few { result ≤ 2 + 6 * LONGEST_TEXT }
@@ -130,7 +134,7 @@ fn name_size(cell: Cell) -> usize
     string_size(&name[..len])
 }
 
-/// Returns how long the value of a register is.
+/// Returns how many bytes the JSON value of a register takes.
 fn register_size(register: &Register<Content>) -> usize
     ensures value { result ≡ size (register_value register.now) }
     ensures few { result ≤ 46 + 6 * LONGEST_TEXT }
@@ -144,7 +148,7 @@ fn register_size(register: &Register<Content>) -> usize
     }
 }
 
-/// Returns how long the value of a register is if no byte of its content is escaped.
+/// Returns how many bytes the JSON value of a register takes if no byte of its content is escaped.
 pub(crate) fn unescaped_size(register: &Register<Content>) -> usize
     ensures value { result ≡ unescaped_size register.now }
     ensures few { result ≤ 46 + LONGEST_TEXT }
@@ -158,7 +162,7 @@ pub(crate) fn unescaped_size(register: &Register<Content>) -> usize
     }
 }
 
-/// Returns how long the canonical text of a content is.
+/// Returns how many bytes the canonical text of a content has.
 #[tactic(auto, using(crate::proofs::SizeLemmas::label_is_short))]
 fn content_length(content: &Content) -> usize
     ensures value { result ≡ length (canonical_text content.now) }
@@ -174,7 +178,7 @@ fn content_length(content: &Content) -> usize
     }
 }
 
-/// Returns how long the value of a content is.
+/// Returns how many bytes the JSON string of a content takes.
 #[tactic(auto, using(crate::proofs::SizeLemmas::label_is_short))]
 fn content_size(content: &Content) -> usize
     ensures value { result ≡ size (string (canonical_text content.now)) }
@@ -190,7 +194,7 @@ fn content_size(content: &Content) -> usize
     }
 }
 
-/// Returns how long a JSON string is: its bytes, the quotes, and what escapes add.
+/// Returns how many bytes the JSON string of `bytes` takes: these bytes, the quotes, and what escapes add.
 fn string_size(bytes: &[u8]) -> usize
     requires { length bytes.now ≤ LONGEST_TEXT }
     ensures value { result ≡ size (string bytes.now) }

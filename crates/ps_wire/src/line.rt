@@ -1,4 +1,4 @@
-//! Lines from deltas: serde_json writes each.
+//! Writes deltas as lines, by serde_json.
 
 ghost use Rattle.std.specs.Prelude.{◌≡◌, ◌⊎◌, ◌<◌, ◌++◌, length, OnOk, OnErr, IfOk, IfErr};
 ghost use Rattle.ps_grid.specs.declared.refusal.Refusal.TheVariants.{Memory};
@@ -12,23 +12,23 @@ use ps_delta::Delta;
 use ps_grid::Refusal;
 use std::alloc::Global;
 
-/// Appends the compact text of the delta to `line`: JSON of its value, without blanks. After a refusal the line is as
-/// before.
+/// Appends the compact text of the delta to `line`: its JSON value without blanks, and without a line feed at the end.
+/// After a refusal `line` is as before.
 ///
 /// # Errors
 ///
-/// - `TooLong` if that text has more than `DELTA_LINE_LIMIT` bytes.
-/// - `Memory` if allocation fails.
+/// - `TooLong`: the text has more than `DELTA_LINE_LIMIT` bytes.
+/// - `Memory`: out of memory.
 ///
-/// Cost: t, for t bytes of the text; memory for them, twice if the line isn't empty. A text that is too long costs what
-/// a line may hold, and no memory.
+/// Cost: O(t) in the t bytes of the text, and memory for them, twice if `line` isn't empty. A text that is too long
+/// costs at most O(`DELTA_LINE_LIMIT`), and no memory.
 #[tactic(auto, using(crate::proofs::SentLemmas::text_is_line))]
 pub fn encode(alloc: Global, delta: &Delta, line: &mut Vec<u8>) -> Result<(), Refusal>
     ensures appended { OnOk result (line.new.items ≡ line.old.items ++ delta_text delta.now) }
     ensures is_line { OnOk result (IsLine (delta_text delta.now) delta.now) }
     ensures kept { OnErr result (line.new.items ≡ line.old.items) }
     ensures too_long { result ≡ Err Refusal.TooLong → DELTA_LINE_LIMIT < length (delta_text delta.now) }
-    // such a text takes no memory
+    // a text that is too long takes no memory
     ensures longer { DELTA_LINE_LIMIT < length (delta_text delta.now) → result ≡ Err Refusal.TooLong }
     ensures refused { IfErr result (λ e. (e ≡ Refusal.TooLong) ⊎ (e ≡ Memory)) }
 {
@@ -46,7 +46,8 @@ pub fn encode(alloc: Global, delta: &Delta, line: &mut Vec<u8>) -> Result<(), Re
 
 /// Returns the text that serde_json writes for the delta.
 ///
-/// It fails only when out of memory: a delta has no map whose key isn't a text, and no number that JSON can't write.
+/// It fails only when out of memory. What else serde_json refuses, no delta has: a map with a key that is no text, or a
+/// number that JSON can't write.
 pub(crate) fn compact_text(alloc: Global, delta: &Delta) -> Result<Vec<u8>, Refusal>
     ensures text { IfOk result (λ text. text.items ≡ delta_text delta.now) }
     ensures lawful { OnOk result (IsLawful delta.now) }

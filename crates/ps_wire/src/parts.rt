@@ -1,4 +1,5 @@
-//! Takes a JSON value apart: its items, its whole number, its text.
+//! Takes a JSON value apart: its items, its whole number, its text. Each function refuses a value of another kind as
+//! `Delta`.
 
 ghost use Rattle.std.specs.Prelude.{◌≡◌, ℕ, ◌^◌, ◌<◌, List, [], ◌∷◌, map, IfOk, IfErr};
 ghost use Rattle.serde_json.specs.Data.{Data, string};
@@ -46,7 +47,7 @@ pub(crate) fn quadruple(value: &Value) -> Result<(&Value, &Value, &Value, &Value
     }
 }
 
-/// Returns a whole number of 64 bits, without sign, fraction and exponent.
+/// Returns the value as a whole number of 64 bits, written without sign, fraction and exponent.
 pub(crate) fn whole(value: &Value) -> Result<u64, Refusal>
     ensures found { IfOk result (λ n. view value.now ≡ whole n) }
     ensures refused { IfErr result (λ r. RefusedSince r ((n : ℕ) → view value.now ≡ whole n → ⊥)) }
@@ -54,7 +55,7 @@ pub(crate) fn whole(value: &Value) -> Result<u64, Refusal>
     value.as_u64().ok_or(Refusal::Delta)
 }
 
-/// Returns a whole number of 8 bits.
+/// Returns the value as a whole number of 8 bits.
 pub(crate) fn short(value: &Value) -> Result<u8, Refusal>
     ensures found { IfOk result (λ n. view value.now ≡ whole n) }
     ensures refused { IfErr result (λ r. RefusedSince r ((n : ℕ) → n < 2 ^ 8 → view value.now ≡ whole n → ⊥)) }
@@ -65,7 +66,7 @@ pub(crate) fn short(value: &Value) -> Result<u8, Refusal>
     }
 }
 
-/// Returns a whole number of 16 bits.
+/// Returns the value as a whole number of 16 bits.
 pub(crate) fn middling(value: &Value) -> Result<u16, Refusal>
     ensures found { IfOk result (λ n. view value.now ≡ whole n) }
     ensures refused { IfErr result (λ r. RefusedSince r ((n : ℕ) → n < 2 ^ 16 → view value.now ≡ whole n → ⊥)) }
@@ -76,7 +77,7 @@ pub(crate) fn middling(value: &Value) -> Result<u16, Refusal>
     }
 }
 
-/// Returns a text.
+/// Returns the bytes of a JSON string.
 pub(crate) fn text(value: &Value) -> Result<&str, Refusal>
     ensures found { IfOk result (λ s. view value.now ≡ string s.now) }
     ensures refused { IfErr result (λ r. RefusedSince r ((s : List ℕ) → view value.now ≡ string s → ⊥)) }

@@ -1,4 +1,7 @@
-//! Whether a line has room for a delta. Bytes are counted only if some cell isn't brief.
+//! Finds whether a line has room for a delta.
+//!
+//! A cell is brief if it holds no counts, no pairs, no text and no formula. Bytes are counted only if some cell isn't
+//! brief, or if there are too many cells.
 
 ghost use Rattle.std.specs.Prelude.{◌↔◌, ◌<◌, ◌≤◌, map as each, IsTrue};
 ghost use Rattle.std.specs.Bool.{OnTrue};
@@ -16,16 +19,17 @@ use ps_delta::{CellState, Delta};
 use ps_grid::Cell;
 use ps_lattice::Register;
 
-/// More bytes than a brief cell takes: five of its own, the name at most 8, the register at most 44, and two empty
-/// arrays.
+/// The most bytes of a brief cell and the comma after it. Its brackets and commas take five, the name at most 8, the
+/// register at most 44, and two empty arrays take four.
 const BRIEF_CELL: usize = 62;
 
-/// The brief cells for which a line has room, with two brackets and a comma after each.
+/// How many brief cells always fit in a line, with the line's two brackets.
 const BRIEF_CELLS: usize = (DELTA_LINE_LIMIT - 2) / BRIEF_CELL;
 
 /// Returns whether the compact text of the delta is short enough for a line.
 ///
-/// Cost: that of the cells, counts and pairs for which a line has room, however many there are; it takes no memory.
+/// Cost: at most that of the cells, counts and pairs that one line can hold, however many the delta has. It takes no
+/// memory.
 #[tactic(auto, unfolding(crate::specs::Line::delta_text, crate::specs::Value::delta_value))]
 pub fn fits_line(delta: &Delta) -> bool
     ensures { IsTrue result ↔ FitsLine delta.now }
@@ -34,7 +38,7 @@ pub fn fits_line(delta: &Delta) -> bool
     are_brief(cells) || array_left(cells, DELTA_LINE_LIMIT).is_some()
 }
 
-/// Returns whether the cells are all brief, as most are, and have room in a line.
+/// Returns whether the cells are all brief, as most are, and few enough for a line.
 fn are_brief(cells: &[(Cell, CellState)]) -> bool
     ensures { OnTrue result (size (array_of (each cell_value cells.now)) ≤ DELTA_LINE_LIMIT) }
 {
@@ -49,7 +53,7 @@ fn are_brief(cells: &[(Cell, CellState)]) -> bool
     true
 }
 
-/// Returns whether a cell holds a register alone, with no text and no formula in it.
+/// Returns whether a cell is brief: it holds no counts, no pairs, no text and no formula.
 #[tactic(auto, unfolding(crate::specs::Value::cell_value))]
 fn is_brief(cell: &(Cell, CellState)) -> bool
     ensures { OnTrue result (size (cell_value cell.now) < BRIEF_CELL) }
@@ -63,7 +67,7 @@ fn is_brief(cell: &(Cell, CellState)) -> bool
     has_brief_content(register)
 }
 
-/// Returns whether the register holds nothing, or no text and no formula.
+/// Returns whether the register holds neither a text nor a formula.
 fn has_brief_content(register: &Register<Content>) -> bool
     ensures { OnTrue result (size (register_value register.now) ≤ 44) }
 {
@@ -73,7 +77,7 @@ fn has_brief_content(register: &Register<Content>) -> bool
     }
 }
 
-/// Returns whether the content is no text and no formula.
+/// Returns whether the content is neither a text nor a formula.
 fn is_brief_content(content: &Content) -> bool
     ensures { OnTrue result (size (string (canonical_text content.now)) ≤ 22) }
 {
@@ -90,7 +94,7 @@ fn is_brief_content(content: &Content) -> bool
     }
 }
 
-/// Does nothing: its contract says that a number of 64 bits has at most 20 bytes beside the quotes.
+/// Does nothing. Its contract says that a number of 64 bits has at most 20 bytes, and two quotes.
 fn number_is_brief(number: i64)
     ensures { size (string (signed_decimal number)) ≤ 22 }
 {}

@@ -1,4 +1,7 @@
-//! How many deltas may share a line, judged by the lengths of their contents.
+//! Finds how many deltas may share a line, judged by the lengths of their contents.
+//!
+//! Here the floor of a cell is a lower bound: the fewest bytes that a line takes for the cell, whichever of the deltas'
+//! contents a join keeps. Deltas whose floors together exceed a line have no line together.
 
 ghost use Rattle.std.specs.Prelude.{◌≡◌, ◌↔◌, ℕ, ◌+◌, ◌-◌, ◌<◌, ◌≤◌, None, IsTrue, IfOk, IfErr, IfSome, length};
 ghost use Rattle.std.specs.Prelude.{sum_by, take};
@@ -14,18 +17,19 @@ use ps_delta::{CellState, Delta};
 use ps_grid::{CELLS, Cell, Refusal};
 use std::alloc::Global;
 
-/// The number of cells whose contents always fit one line, if no byte is escaped.
+/// A number of cells whose floors always fit one line.
 const FEW_CELLS: usize = 512;
 
 /// Returns how many of the first `most` deltas may share a line.
 ///
-/// A join of more of them, up to `most`, has no line. Each cell of it holds one of the cell's contents in these deltas,
-/// and the shortest of these contents are too long together. The deltas aren't joined to find that.
+/// A join of more of them, up to `most`, has no line. A joined cell holds one of the contents that these deltas have
+/// for it. Even with the shortest one for each cell, such a join would be too long. The deltas aren't joined to find
+/// this.
 ///
 /// Fails only when out of memory.
 ///
-/// Cost: the cells of the deltas and of the grid, and memory for the grid's. For one delta, and for deltas of few
-/// cells, only their number.
+/// Cost: linear in the cells of the deltas and of the grid, and memory for one number a cell of the grid. With one
+/// delta, or at most 512 cells in all, linear in the number of deltas, and no memory.
 pub fn may_share_line(alloc: Global, deltas: &[Delta], most: usize) -> Result<usize, Refusal>
     ensures most { IfOk result (λ n. n ≤ most) }
     ensures within { IfOk result (λ n. n ≤ length deltas.now) }
@@ -42,7 +46,7 @@ pub fn may_share_line(alloc: Global, deltas: &[Delta], most: usize) -> Result<us
     Ok(room_for(group, &mut floors))
 }
 
-/// Whether the deltas have more than `most` cells, where a cell counts as often as it comes.
+/// Returns whether the deltas have more than `most` cells. A cell counts once for each delta that has it.
 fn have_more_cells(deltas: &[Delta], most: usize) -> bool
     ensures { IsTrue result ↔ (most < sum_by length deltas.now) }
 {
@@ -56,7 +60,7 @@ fn have_more_cells(deltas: &[Delta], most: usize) -> bool
     false
 }
 
-/// For each cell of the grid the fewest bytes that any of the deltas takes for its content.
+/// Returns the floor of each cell of the grid, by index; that of a cell in none of the deltas is `usize::MAX`.
 fn floors_of(alloc: Global, deltas: &[Delta]) -> Result<Vec<usize>, Refusal>
     ensures whole { IfOk result (λ floors. length floors.items ≡ CELLS) }
     ensures floors { IfOk result (λ floors. AreFloors floors.items deltas.now) }
@@ -69,7 +73,7 @@ fn floors_of(alloc: Global, deltas: &[Delta]) -> Result<Vec<usize>, Refusal>
     Ok(floors)
 }
 
-/// Lowers the floors of the cells to what their contents take here.
+/// Lowers the floor of each cell to what its content takes here, if that is less.
 fn lower(cells: &[(Cell, CellState)], floors: &mut [usize])
     requires whole { length floors.old ≡ CELLS }
     ensures whole { length floors.new ≡ CELLS }
@@ -82,15 +86,18 @@ fn lower(cells: &[(Cell, CellState)], floors: &mut [usize])
     }
 }
 
-/// The fewest bytes of a line for a cell that holds this state's content. They include two brackets, three commas, the
-/// quotes of its name, the brackets of its counts and pairs, and what comes after it.
+/// Returns the fewest bytes that a line takes for a cell with this state's content, whatever else the cell holds.
+///
+/// Of these, 12 are two brackets, three commas, the quotes of the name, the brackets of the counts and of the pairs,
+/// and the comma or bracket after the cell.
 fn cell_floor(state: &CellState) -> usize
     ensures { result ≡ cell_floor state.now }
 {
     12 + unescaped_size(state.parts().0)
 }
 
-/// How many of the deltas a line has room for, by the floors of their cells. It clears these floors.
+/// Returns how many of the deltas, from the first on, have floors that fit one line. It sets the floors that it counts
+/// to 0.
 fn room_for(deltas: &[Delta], floors: &mut [usize]) -> usize
     requires whole { length floors.old ≡ CELLS }
     ensures within { result ≤ length deltas.now }
@@ -110,8 +117,8 @@ fn room_for(deltas: &[Delta], floors: &mut [usize]) -> usize
     count
 }
 
-/// What is left of `room` after the floors of the cells; none if they need more. The floors are cleared, so that each
-/// counts once.
+/// Returns how many of `room` bytes the floors of the cells leave, or `None` if they need more. It sets these floors to
+/// 0, so that a later delta with the same cell doesn't count it again.
 fn spend(cells: &[(Cell, CellState)], floors: &mut [usize], room: usize) -> Option<usize>
     requires whole { length floors.old ≡ CELLS }
     ensures whole { length floors.new ≡ CELLS }

@@ -42,7 +42,7 @@ trait Item {
     // the value that stands for it
     ghost spelled: { Self → Data };
 
-    // what holds of it
+    // what is known of an item that was written
     ghost holds: { Self → Type 0 };
 
     /// Writes the item.
@@ -158,7 +158,7 @@ fn send_content<S: Serializer>(content: &Content, out: &mut S) -> Result<(), S::
     }
 }
 
-/// Writes a text with the quote that marks it as one.
+/// Writes a label after the apostrophe that marks a text.
 fn send_label<S: Serializer>(label: &[u8], out: &mut S) -> Result<(), S::Error>
     requires { IsLabel label.now }
     ensures { OnOk result (SendsValue (string (39 ∷ label.now)) (S.written out.old) (S.written out.new)) }
@@ -168,7 +168,7 @@ fn send_label<S: Serializer>(label: &[u8], out: &mut S) -> Result<(), S::Error>
     send_text(&text[..len], out)
 }
 
-/// Puts a quote and the label at the front, and returns how long they are.
+/// Puts an apostrophe and the label at the front of `text`, and returns how many bytes these are.
 fn put_label(label: &[u8], text: &mut [u8]) -> usize
     requires { length label.now < length text.old }
     ensures front { take result text.new ≡ 39 ∷ label.now }
@@ -181,7 +181,7 @@ fn put_label(label: &[u8], text: &mut [u8]) -> usize
     end
 }
 
-/// Writes a text as it is.
+/// Writes bytes of UTF-8 as a JSON string.
 #[inline(always)]
 fn send_text<S: Serializer>(text: &[u8], out: &mut S) -> Result<(), S::Error>
     requires { IsUtf8 text.now }

@@ -1,4 +1,4 @@
--- What a command keeps when a text for the help or an argument is added to it.
+-- What stays of a command when a help text or an argument is added to it.
 use Rattle.std.proofs.Common.{◌≡◌, ◌∙◌, ◌||◌, ap, ap₂, Bool, false, List, ℕ, Some, Bor}
 use Rattle.clap.specs.Words.{AddsArg, App, app_of}
 use Rattle.clap.specs.Simple.{app_of_fields}
@@ -7,7 +7,7 @@ use Rattle.clap.specs.declared.builder.command.Command.{Command}
 use Rattle.clap.specs.declared.builder.command.Command.TheOpen.{Command-F}
 use Rattle.clap.specs.declared.builder.command.Command.TheViews.{out-Command as fields_of}
 
--- a command with two texts is the same command line
+-- a command with two help texts added reads the same words
 pub told-app : {text after : Bor (List ℕ)} (new about told : Command) (app : App)
     → fields_of about ≡ record (fields_of new) { about = Some text }
     → fields_of told ≡ record (fields_of about) { after_help = Some after }
@@ -23,7 +23,7 @@ told-local new about told is_about is_told is =
     ap (λ (f : Command-F Command). f.has_globals) is_told
     ∙ ap (λ (f : Command-F Command). f.has_globals) is_about ∙ is
 
--- one more argument that is local to a command leaves it without global ones
+-- a command without global arguments has none after a local one is added
 pub added-local : (old new : Command) (a : Arg) → AddsArg old a new → a.global ≡ false
     → (fields_of old).has_globals ≡ false → (fields_of new).has_globals ≡ false
 added-local old new a adds is_local is = adds.globals ∙ ap₂ (λ (x : Bool) (y : Bool). x || y) is is_local

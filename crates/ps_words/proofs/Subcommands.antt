@@ -21,7 +21,7 @@ pub subcommand_rows_is : {Z : Type 0} (sub : Option (Box SubCommand Z)) (name : 
 subcommand_rows_is None name rows is_name are = search rules
 subcommand_rows_is (Some b) name rows is_name are = search rules
 
--- a number that a getter read stands among the rows
+-- a number that a getter read is in a row
 pub gives_number : (found : Found) (id : Text) (n : ℕ)
     → (one_text found id ≡ None → ⊥)
     → ((text : Text) → one_text found id ≡ Some text → digits_value 10 (without_leading_plus text) ≡ n)
@@ -32,7 +32,7 @@ gives_number found id n some reads = go (one_text found id) refl
     go None is = absurd (some is)
     go (Some text) is = (text, sym (one_text-rows found id) ∙ is, reads text is)
 
--- an option that has no entry stands in no row
+-- an option without a match has no row
 pub gives_none : (found : Found) (id : Text) → is_some (matched_of found id) ≡ false → one_of id (rows_of found) ≡ None
 gives_none found id is = sym (one_text-rows found id) ∙ ap
     (option_and_then (λ (a : MatchedArg). option_map (λ s. read_as a.reading s.now) (slice_get a.vals.items 0)))

@@ -28,11 +28,11 @@ ranged_option id least most = record (new_rule id) {
 abbrev pub usual_option : Text → ℕ → ℕ → Text → Rule
 usual_option id least most usual = record (ranged_option id least most) { defaults = usual ∷ [] }
 
--- an option with a number from 1 to most, 1 where it is not given
+-- an option with a number from 1 to most, which is 1 when left out ..
 abbrev pub number_option : Text → ℕ → Rule
 number_option id most = record (ranged_option id 1 most) { defaults = codes "1" ∷ [] }
 
--- .. which has to be given
+-- .. and is required
 abbrev pub needed_option : Text → ℕ → Rule
 needed_option id most = record (ranged_option id 1 most) { required = true }
 
@@ -44,7 +44,7 @@ text_option id = record (new_rule id) { long = Some id; action = Some Set }
 abbrev pub flag_option : Text → Rule
 flag_option id = record (new_rule id) { long = Some id; action = Some SetTrue }
 
--- a command with the options of one that opens a sheet
+-- the command with the options of a sheet that it opens
 abbrev pub with_sheet_options : App → App
 with_sheet_options app =
     with_rule (with_rule (with_rule app (number_option (codes "workers") WORKERS))
@@ -94,7 +94,7 @@ abbrev pub squash_app : App
 squash_app = with_rule (with_rule (with_rule (new_app (codes "squash")) (text_option (codes "keep")))
     (ranged_option (codes "until") 1 MOST_CHANGES)) (ranged_option (codes "without") 1 REPLICAS)
 
--- the program has one of the commands, and a version
+-- the whole command line: it needs one of the commands, and has a version
 abbrev pub sheet_app : App
 sheet_app = with_subcommand (with_subcommand (with_subcommand (with_subcommand (with_subcommand (with_subcommand
     (with_subcommand (with_subcommand (on_top (λ s. record s {
@@ -108,7 +108,7 @@ abbrev pub GivesNumber : List Row → Text → ℕ → Type 0
 GivesNumber rows id n = (text : Text) × (one_of id rows ≡ Some text)
     × (digits_value 10 (without_leading_plus text) ≡ n)
 
--- .. or none, where it isn't there
+-- .. or none, if the option was left out
 abbrev pub GivesCount : List Row → Text → Option ℕ → Type 0
 GivesCount rows id None = one_of id rows ≡ None
 GivesCount rows id (Some n) = GivesNumber rows id n
@@ -122,7 +122,7 @@ abbrev pub GivesFlag : List Row → Text → Bool → Type 0
 GivesFlag rows id b = (one_of id rows ≡ Some (codes "true") → b ≡ true)
     × (one_of id rows ≡ Some (codes "false") → b ≡ false) × (one_of id rows ≡ None → b ≡ false)
 
--- one of two options is "-", and the other one has this number; whether that is the first
+-- one of `--from` and `--to` is `-`, and the other one has this number; true if `--from` is `-`
 abbrev pub GivesPipe : List Row → Bool → ℕ → Type 0
 GivesPipe rows true port = (first_of (codes "from") rows ≡ Some (codes "-")) × GivesNumber rows (codes "to") port
 GivesPipe rows false port = (first_of (codes "to") rows ≡ Some (codes "-")) × GivesNumber rows (codes "from") port
@@ -170,11 +170,11 @@ GivesNumbers rows (Talk o) = GivesNumber rows (codes "to") o.to × GivesFlag row
 GivesNumbers rows (Squash o) = GivesText rows (codes "keep") o.keep × GivesCount rows (codes "until") o.until
     × GivesCount rows (codes "without") o.without
 
--- the matches are those of the command with its numbers
+-- the matches are those of the command that has these options
 abbrev pub GivesOptions : Option (Text × List Row) → Options → Type 0
 GivesOptions matches options = (rows : List Row) × (matches ≡ Some (name_of options, rows)) × GivesNumbers rows options
 
--- the first word after the program's name asks for the page of earlier versions
+-- the first word after the program's name is `page`, a command of earlier versions
 abbrev pub asks_for_page : List Text → Bool
 asks_for_page (name ∷ word ∷ words) = bytes_eq word (codes "page")
 asks_for_page (name ∷ []) = false

@@ -1,4 +1,4 @@
-//! Options of a command line, and commands that have them.
+//! Builds options of a command line, and commands that have them.
 ghost use Rattle.std.specs.Prelude.{◌≡◌, false, IfOk};
 ghost use Rattle.clap.specs.Words.{app_of, new_app, rule_of, with_rule};
 ghost use Rattle.clap.specs.declared.builder.command.Command.TheViews.{out-Command as fields_of};
@@ -111,7 +111,7 @@ pub(crate) fn with_option<'a>(
     command.arg(option)
 }
 
-/// Returns the command with the options of one that opens a sheet.
+/// Returns the command with the options of a sheet that it opens: `--workers`, `--replica` and `--squash`.
 pub(crate) fn with_sheet_options<'a>(
     alloc: Global,
     command: Command<'a>,

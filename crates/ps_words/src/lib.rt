@@ -2,8 +2,8 @@
 //!
 //! It is not the program: it runs no command, and whoever calls it gives it the words.
 //!
-//! The contract to use is that of [`read_words`]: the command, its numbers and its flags are those of the matches that
-//! `clap` finds in the words, each number in its range.
+//! The contract to use is that of [`read_words`]: the command, its numbers, texts and flags are those that `clap` finds
+//! in the words. Each number is in its range.
 //!
 //! From the words `sheet run --replica 2`, [`read_words`] returns the options of `run` with one worker, replica 2, and
 //! no flag set.

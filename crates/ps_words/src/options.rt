@@ -1,4 +1,4 @@
-//! The words that the program is started with.
+//! The options of each command, with their numbers in range.
 ghost use Rattle.std.specs.Option.{ForSome};
 ghost use Rattle.std.specs.Prelude.{◌≡◌, ◌≤◌, IsSome, None, false, true};
 ghost use Rattle.ps_grid.specs.declared.parties.TheConstants.{REPLICAS, SEATS, WORKERS};
@@ -11,71 +11,73 @@ pub const MOST_SESSIONS: u32 = 1_000_000;
 /// The longest that a connection may wait for a slot, in seconds.
 pub const LONGEST_WAIT: u8 = 60;
 
-/// The longest after which a session ends whose peer sends nothing, in seconds: a day.
+/// The greatest value of `--idle` of `serve`, in seconds: a day. A session ends once its peer was silent for so long.
 pub const LONGEST_IDLE: u32 = 86_400;
 
-/// The greatest number of milliseconds of `--every`, an option of `follow` in earlier versions.
+/// The greatest value of `--every` of `follow`, in milliseconds. The option has no effect any more.
 pub const LONGEST_PAUSE: u16 = 60_000;
 
-/// The most change lines that `--until` of `squash` and `--after` of `follow` can ask for.
+/// The greatest value of `--until` of `squash`, in change lines, and of `--after` of `follow`, in changes.
 pub const MOST_CHANGES: u32 = 1_000_000_000;
 
-/// What a sheet is opened with.
+/// The options that `run` and `serve` open their sheet with.
 #[derive(Clone, Copy, PartialEq, Eq)]
 pub struct SheetOptions {
-    /// How many workers may evaluate a level, 1 to `WORKERS`.
+    /// How many threads may evaluate formulas at once, 1 to `WORKERS`.
     pub workers: u8,
     /// The replica's number, 1 to `REPLICAS`.
     pub replica: u8,
-    /// Whether the file that it is kept in is squashed first, where that makes it at most half as long.
+    /// Whether the file of `--keep` is squashed first (rewritten with fewer lines), if that at least halves its length.
     pub squash: bool,
     ghost workers_in_range: { (1 ≤ workers) × (workers ≤ WORKERS) },
     ghost replica_in_range: { (1 ≤ replica) × (replica ≤ REPLICAS) },
 }
 
-/// What `sheet run` is asked for.
+/// The options of `sheet run`.
 #[derive(Clone, Copy, PartialEq, Eq)]
 pub struct RunOptions<'a> {
-    /// What its sheet is opened with.
+    /// The options of its sheet.
     pub sheet: SheetOptions,
-    /// The path of the file that the sheet is kept in, where it is to be kept.
+    /// The path of the file that the sheet's changes are read from and appended to; none for a sheet in memory alone.
     pub keep: Option<&'a str>,
-    /// Whether standard error gets notes with hints about lines.
+    /// Whether standard error gets a hint for each line that is refused or looks like a number.
     pub explain: bool,
-    /// Whether a refused line is a fault in the end.
+    /// Whether the exit status is 3 if a line was refused.
     pub strict: bool,
 }
 
-/// What `sheet table` is asked for.
+/// The options of `sheet table`.
 #[derive(Clone, Copy, PartialEq, Eq)]
 pub struct TableOptions {
-    /// How many workers may evaluate a level, 1 to `WORKERS`.
+    /// How many threads may evaluate formulas at once, 1 to `WORKERS`.
     pub workers: u8,
-    /// Whether the entries of the cells are written, in place of what they show.
+    /// Whether the output has what each cell holds (a formula, say) instead of what it shows.
     pub entries: bool,
-    /// Whether standard error gets notes with hints about fields.
+    /// Whether standard error gets a hint for each field that is refused or looks like a number.
     pub explain: bool,
     ghost workers_in_range: { (1 ≤ workers) × (workers ≤ WORKERS) },
 }
 
-/// What `sheet serve` is asked for.
+/// The options of `sheet serve`.
 #[derive(Clone, Copy, PartialEq, Eq)]
 pub struct ServeOptions<'a> {
     /// The port to listen on, 1 or more.
     pub port: u16,
-    /// What its sheet is opened with.
+    /// The options of its sheet.
     pub sheet: SheetOptions,
-    /// The path of the file that the sheet is kept in, where it is to be kept.
+    /// The path of the file that the sheet's changes are read from and appended to; none for a sheet in memory alone.
     pub keep: Option<&'a str>,
-    /// The title of the page, where one is given.
+    /// The title of the page; none for the kept file's name, or for what A1 shows.
     pub title: Option<&'a str>,
-    /// How many sessions to serve, 1 to `MOST_SESSIONS`; none where it serves until it is stopped.
+    /// How many sessions to serve, 1 to `MOST_SESSIONS`; none to serve until the program is stopped.
     pub sessions: Option<u32>,
     /// How many sessions to serve at a time, 1 to `SEATS`.
     pub seats: u16,
     /// How many seconds a connection waits for a slot, up to `LONGEST_WAIT`.
     pub wait: u8,
-    /// After how many seconds a session ends whose peer sends nothing, 1 to `LONGEST_IDLE`; never where there is none.
+    /// How many seconds a peer may be silent before its session ends, 1 to `LONGEST_IDLE`.
+    ///
+    /// If it is none, a peer has 30 seconds for its first line, and no limit after it; a browser has 5 minutes.
     pub idle: Option<u32>,
     /// Whether standard error gets the reason if a port can't be used.
     pub explain: bool,
@@ -86,12 +88,12 @@ pub struct ServeOptions<'a> {
     ghost idle_in_range: { ForSome idle (λ n. (1 ≤ n) × (n ≤ LONGEST_IDLE)) },
 }
 
-/// What `sheet sync` is asked for.
+/// The options of `sheet sync`.
 #[derive(Clone, Copy, PartialEq, Eq)]
 pub struct SyncOptions {
     /// The port of the replica whose deltas are pulled, 1 or more.
     pub from: u16,
-    /// The port of the replica to which they are pushed, 1 or more.
+    /// The port of the replica that the deltas are pushed to, 1 or more.
     pub to: u16,
     /// Whether standard error gets the reason if a port can't be used.
     pub explain: bool,
@@ -99,16 +101,16 @@ pub struct SyncOptions {
     ghost to_in_range: { 1 ≤ to },
 }
 
-/// What `sheet join` is asked for.
+/// The options of `sheet join` between two ports.
 #[derive(Clone, Copy, PartialEq, Eq)]
 pub struct JoinOptions {
-    /// The port of the replica whose changes go first, 1 or more.
+    /// The port of the replica whose changes are merged at the other one first, 1 or more.
     pub from: u16,
     /// The port of the other replica, 1 or more.
     pub to: u16,
-    /// Whether it ends once each has all that the other one had.
+    /// Whether the command ends once each replica has all that the other one had.
     pub once: bool,
-    /// Whether it only says at which cells they differ, and merges nothing.
+    /// Whether the command only reports which cells differ, and merges nothing.
     pub check: bool,
     /// Whether standard error gets the reason if a port can't be used.
     pub explain: bool,
@@ -117,40 +119,40 @@ pub struct JoinOptions {
     ghost one_way: { once ≡ true → check ≡ false },
 }
 
-/// What `sheet join` is asked for where `-` takes the place of a port.
+/// The options of `sheet join` between a port and `-`, the replica behind standard input and output.
 #[derive(Clone, Copy, PartialEq, Eq)]
 pub struct PipeOptions {
-    /// Whether the changes of the replica behind standard input and output go first.
+    /// Whether `-` is `--from`: the changes of the replica behind standard input and output are merged first.
     pub is_first: bool,
     /// The port of the other replica, 1 or more.
     pub port: u16,
-    /// Whether it ends once each has all that the other one had.
+    /// Whether the command ends once each replica has all that the other one had.
     pub once: bool,
     /// Whether standard error gets the reason if the port can't be used.
     pub explain: bool,
     ghost port_in_range: { 1 ≤ port },
 }
 
-/// What `sheet join --with --lines` is asked for.
+/// The options of `sheet join --with --lines`.
 #[derive(Clone, Copy, PartialEq, Eq)]
 pub struct RelayOptions {
     /// The port of the replica, 1 or more.
     pub server: u16,
-    /// Whether a lost connection ends it.
+    /// Whether the command ends when its connection is lost; if not, it connects again.
     pub once: bool,
     /// Whether standard error gets the reason if the port can't be used.
     pub explain: bool,
     ghost server_in_range: { 1 ≤ server },
 }
 
-/// What `sheet follow` is asked for.
+/// The options of `sheet follow`.
 #[derive(Clone, Copy, PartialEq, Eq)]
 pub struct FollowOptions {
     /// The port of the replica that is followed, 1 or more.
     pub from: u16,
-    /// How many changes of the replica are passed over, from the first on, up to `MOST_CHANGES`.
+    /// How many of the replica's changes are skipped, from the first on, at most `MOST_CHANGES`.
     pub after: u32,
-    /// Whether it ends once the replica has no more.
+    /// Whether the command ends once it has written all that the replica has.
     pub until_now: bool,
     /// The milliseconds of `--every`, 1 to `LONGEST_PAUSE`. They have no effect any more.
     pub every: u16,
@@ -161,34 +163,35 @@ pub struct FollowOptions {
     ghost every_in_range: { (1 ≤ every) × (every ≤ LONGEST_PAUSE) },
 }
 
-/// What `sheet talk` is asked for.
+/// The options of `sheet talk`.
 #[derive(Clone, Copy, PartialEq, Eq)]
 pub struct TalkOptions {
-    /// The port of the server whose session it is, 1 or more.
+    /// The port of the server that is asked, 1 or more.
     pub to: u16,
-    /// Whether standard error gets notes with hints about lines, and the reason if a port can't be used.
+    /// Whether standard error gets a hint for each line that is refused or looks like a number, and the reason if the
+    /// port can't be used.
     pub explain: bool,
     ghost to_in_range: { 1 ≤ to },
 }
 
-/// What `sheet squash` is asked for.
+/// The options of `sheet squash`.
 #[derive(Clone, Copy, PartialEq, Eq)]
 pub struct SquashOptions<'a> {
-    /// The path of the kept file that is squashed in its place; standard input is squashed where there is none.
+    /// The path of the kept file that its own squashed lines replace; none to squash standard input.
     pub keep: Option<&'a str>,
-    /// How many change lines are taken, from the first on, 1 to `MOST_CHANGES`; all of them where there is none.
+    /// How many change lines are taken, from the first on, 1 to `MOST_CHANGES`; none to take all.
     pub until: Option<u32>,
-    /// The replica whose parts of the changes are left out, 1 to `REPLICAS`; nothing is where there is none.
+    /// The replica whose assignments, counts and choices are left out, 1 to `REPLICAS`; none to leave out nothing.
     pub without: Option<u8>,
     ghost until_in_range: { ForSome until (λ n. (1 ≤ n) × (n ≤ MOST_CHANGES)) },
     ghost without_in_range: { ForSome without (λ n. (1 ≤ n) × (n ≤ REPLICAS)) },
     ghost whole_in_place: { IsSome keep → (until ≡ None) × (without ≡ None) },
 }
 
-/// A command with what it is asked for.
+/// A command with its options.
 #[derive(Clone, Copy)]
 pub enum Options<'a> {
-    /// Answers standard input line by line.
+    /// Answers each line of standard input.
     Run(RunOptions<'a>),
     /// Reads a table and writes its settled values.
     Table(TableOptions),
@@ -196,17 +199,17 @@ pub enum Options<'a> {
     Serve(ServeOptions<'a>),
     /// Pushes all changes of one replica to another.
     Sync(SyncOptions),
-    /// Merges the changes of each of two replicas at the other, or compares them.
+    /// Merges each of two replicas' changes at the other one, or compares the two.
     Join(JoinOptions),
-    /// Merges the changes of each of two replicas at the other: that of a port, and the one behind standard input and
+    /// Merges each of two replicas' changes at the other one: a replica at a port, and one behind standard input and
     /// output.
     Pipe(PipeOptions),
-    /// Merges the lines of standard input at a replica, and writes the changes of others as such lines.
+    /// Merges the `merge` lines of standard input at a replica, and writes the replica's other changes as such lines.
     Relay(RelayOptions),
     /// Writes all changes of a replica as change lines.
     Follow(FollowOptions),
     /// Asks a server each line of standard input.
     Talk(TalkOptions),
-    /// Makes few change lines of many delta lines.
+    /// Joins the deltas of many lines, and writes them as few change lines.
     Squash(SquashOptions<'a>),
 }

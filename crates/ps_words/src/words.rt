@@ -1,4 +1,7 @@
-//! Reading the program's words.
+//! Reads the program's words.
+//!
+//! `clap` refuses a number out of its range. The functions here check ranges again, since the types of options promise
+//! them.
 ghost use Rattle.std.specs.Prelude.{◌≡◌, ◌≤◌, IfOk, IfSome, Some, codes, map, string_bytes, true};
 ghost use Rattle.clap.specs.Words.{first_of, found_of, rows_of, subcommand_of};
 ghost use Rattle.ps_words.specs.Words.{GivesCount, GivesFlag, GivesNumber, GivesNumbers, GivesOptions, GivesText};
@@ -15,7 +18,7 @@ use clap::{ArgMatches, Error};
 use ps_grid::{REPLICAS, SEATS, WORKERS};
 use std::alloc::{AllocError, Global};
 
-/// The number of an option, if it lies in 1..=most.
+/// Returns the number of an option of up to 8 bits; none if it isn't in 1..=most.
 fn number_of(matches: &ArgMatches<'_>, id: &str, most: u8) -> Option<u8>
     ensures number { IfSome result (GivesNumber (rows_of (found_of matches.now)) id.now) }
     ensures range { IfSome result (λ n. (1 ≤ n) × (n ≤ most)) }
@@ -26,7 +29,7 @@ fn number_of(matches: &ArgMatches<'_>, id: &str, most: u8) -> Option<u8>
     }
 }
 
-/// The number of an option that may be left out, if it lies in 1..=most.
+/// Returns `Some(None)` if an option was left out, and otherwise its number; none if that isn't in 1..=most.
 fn count_of(matches: &ArgMatches<'_>, id: &str, most: u32) -> Option<Option<u32>>
     ensures number { IfSome result (GivesCount (rows_of (found_of matches.now)) id.now) }
     ensures range { IfSome result (λ count. IfSome count (λ n. (1 ≤ n) × (n ≤ most))) }
@@ -40,7 +43,7 @@ fn count_of(matches: &ArgMatches<'_>, id: &str, most: u32) -> Option<Option<u32>
     }
 }
 
-/// The replica of an option that may be left out, if it is one.
+/// Returns `Some(None)` if an option was left out, and otherwise its replica; none if that isn't in 1..=`REPLICAS`.
 fn replica_of(matches: &ArgMatches<'_>, id: &str) -> Option<Option<u8>>
     ensures number { IfSome result (GivesCount (rows_of (found_of matches.now)) id.now) }
     ensures range { IfSome result (λ count. IfSome count (λ n. (1 ≤ n) × (n ≤ REPLICAS))) }
@@ -54,7 +57,7 @@ fn replica_of(matches: &ArgMatches<'_>, id: &str) -> Option<Option<u8>>
     }
 }
 
-/// The number of an option, if it is at most this.
+/// Returns the number of an option of up to 8 bits; none if it is above `most`.
 fn number_to(matches: &ArgMatches<'_>, id: &str, most: u8) -> Option<u8>
     ensures number { IfSome result (GivesNumber (rows_of (found_of matches.now)) id.now) }
     ensures range { IfSome result (λ n. n ≤ most) }
@@ -65,7 +68,7 @@ fn number_to(matches: &ArgMatches<'_>, id: &str, most: u8) -> Option<u8>
     }
 }
 
-/// The number of an option of up to 32 bits, if it is at most this.
+/// Returns the number of an option of up to 32 bits; none if it is above `most`.
 fn long_number_to(matches: &ArgMatches<'_>, id: &str, most: u32) -> Option<u32>
     ensures number { IfSome result (GivesNumber (rows_of (found_of matches.now)) id.now) }
     ensures range { IfSome result (λ n. n ≤ most) }
@@ -76,7 +79,7 @@ fn long_number_to(matches: &ArgMatches<'_>, id: &str, most: u32) -> Option<u32>
     }
 }
 
-/// The number of an option of up to 16 bits, if it lies in 1..=most.
+/// Returns the number of an option of up to 16 bits; none if it isn't in 1..=most.
 fn wide_number_of(matches: &ArgMatches<'_>, id: &str, most: u16) -> Option<u16>
     ensures number { IfSome result (GivesNumber (rows_of (found_of matches.now)) id.now) }
     ensures range { IfSome result (λ n. (1 ≤ n) × (n ≤ most)) }
@@ -87,21 +90,21 @@ fn wide_number_of(matches: &ArgMatches<'_>, id: &str, most: u16) -> Option<u16>
     }
 }
 
-/// The text of an option, if it is given.
+/// Returns the text of an option, if it was given.
 fn text_of<'a>(matches: &ArgMatches<'a>, id: &str) -> Option<&'a str>
     ensures { GivesText (rows_of (found_of matches.now)) id.now result }
 {
     matches.get_str(id)
 }
 
-/// Whether a flag is set.
+/// Returns whether a flag is set.
 fn flag_of(matches: &ArgMatches<'_>, id: &str) -> bool
     ensures { GivesFlag (rows_of (found_of matches.now)) id.now result }
 {
     matches.get_flag(id)
 }
 
-/// The port of an option, if it is one.
+/// Returns the port of an option; none if it isn't in 1..=65535.
 fn port_of(matches: &ArgMatches<'_>, id: &str) -> Option<u16>
     ensures number { IfSome result (GivesNumber (rows_of (found_of matches.now)) id.now) }
     ensures range { IfSome result (λ n. 1 ≤ n) }
@@ -112,7 +115,7 @@ fn port_of(matches: &ArgMatches<'_>, id: &str) -> Option<u16>
     }
 }
 
-/// What the sheet of `run` or `serve` is opened with.
+/// Returns the options that `run` or `serve` opens its sheet with.
 fn sheet_options(matches: &ArgMatches<'_>) -> Option<SheetOptions>
     ensures workers { IfSome result (λ sheet. GivesNumber (rows_of (found_of matches.now)) (codes "workers")
         sheet.workers) }
@@ -130,7 +133,7 @@ fn sheet_options(matches: &ArgMatches<'_>) -> Option<SheetOptions>
     })
 }
 
-/// What the sheet of `run` is opened with, its file and its flags.
+/// Returns the options of `run`.
 fn run_options<'a>(matches: &ArgMatches<'a>) -> Option<Options<'a>>
     ensures { IfSome result (λ options. (name_of options ≡ codes "run")
         × GivesNumbers (rows_of (found_of matches.now)) options) }
@@ -143,7 +146,7 @@ fn run_options<'a>(matches: &ArgMatches<'a>) -> Option<Options<'a>>
     }))
 }
 
-/// The number of `table`, and its flags.
+/// Returns the options of `table`.
 fn table_options<'a>(matches: &ArgMatches<'a>) -> Option<Options<'a>>
     ensures { IfSome result (λ options. (name_of options ≡ codes "table")
         × GivesNumbers (rows_of (found_of matches.now)) options) }
@@ -156,7 +159,7 @@ fn table_options<'a>(matches: &ArgMatches<'a>) -> Option<Options<'a>>
     }))
 }
 
-/// The numbers of `serve`, what its sheet is opened with, its file and its flag.
+/// Returns the options of `serve`.
 fn serve_options<'a>(matches: &ArgMatches<'a>) -> Option<Options<'a>>
     ensures { IfSome result (λ options. (name_of options ≡ codes "serve")
         × GivesNumbers (rows_of (found_of matches.now)) options) }
@@ -183,7 +186,7 @@ fn serve_options<'a>(matches: &ArgMatches<'a>) -> Option<Options<'a>>
     }))
 }
 
-/// The ports of `sync`, and its flag.
+/// Returns the options of `sync`.
 fn sync_options<'a>(matches: &ArgMatches<'a>) -> Option<Options<'a>>
     ensures { IfSome result (λ options. (name_of options ≡ codes "sync")
         × GivesNumbers (rows_of (found_of matches.now)) options) }
@@ -194,7 +197,7 @@ fn sync_options<'a>(matches: &ArgMatches<'a>) -> Option<Options<'a>>
     Some(Options::Sync(SyncOptions { from, to, explain }))
 }
 
-/// The ports of `join`, and its flags; none if it would both merge and compare.
+/// Returns the options of a `join` between two ports; none with both `--once` and `--check`.
 fn join_options<'a>(matches: &ArgMatches<'a>) -> Option<Options<'a>>
     ensures { IfSome result (λ options. (name_of options ≡ codes "join")
         × GivesNumbers (rows_of (found_of matches.now)) options) }
@@ -215,10 +218,10 @@ fn join_options<'a>(matches: &ArgMatches<'a>) -> Option<Options<'a>>
     }))
 }
 
-/// What takes the place of a port for standard input and output.
+/// What stands instead of a port for standard input and output.
 const STANDARD: &str = "-";
 
-/// Whether an option is `-`.
+/// Returns whether an option is `-`.
 fn is_standard(matches: &ArgMatches<'_>, id: &str) -> bool
     ensures { result ≡ true → first_of id.now (rows_of (found_of matches.now)) ≡ Some (codes "-") }
 {
@@ -228,7 +231,7 @@ fn is_standard(matches: &ArgMatches<'_>, id: &str) -> bool
     }
 }
 
-/// The port of `join` with `-` in place of the other port, and its flags; none if it would only compare.
+/// Returns the options of a `join` between a port and `-`; none with `--check`, or without one port and one `-`.
 fn pipe_options<'a>(matches: &ArgMatches<'a>) -> Option<Options<'a>>
     ensures { IfSome result (λ options. (name_of options ≡ codes "join")
         × GivesNumbers (rows_of (found_of matches.now)) options) }
@@ -257,7 +260,7 @@ fn pipe_options<'a>(matches: &ArgMatches<'a>) -> Option<Options<'a>>
     None
 }
 
-/// The port of `join --with`, and its flags; none without `--lines`.
+/// Returns the options of `join --with`; none without `--lines`.
 fn relay_options<'a>(matches: &ArgMatches<'a>) -> Option<Options<'a>>
     ensures { IfSome result (λ options. (name_of options ≡ codes "join")
         × GivesNumbers (rows_of (found_of matches.now)) options) }
@@ -274,7 +277,7 @@ fn relay_options<'a>(matches: &ArgMatches<'a>) -> Option<Options<'a>>
     }))
 }
 
-/// The options of `join`, over two ports, over one and `-`, or over one and lines.
+/// Returns the options of any `join`: between two ports, a port and `-`, or a port and lines.
 fn joining_options<'a>(matches: &ArgMatches<'a>) -> Option<Options<'a>>
     ensures { IfSome result (λ options. (name_of options ≡ codes "join")
         × GivesNumbers (rows_of (found_of matches.now)) options) }
@@ -288,7 +291,7 @@ fn joining_options<'a>(matches: &ArgMatches<'a>) -> Option<Options<'a>>
     }
 }
 
-/// What an option of `join` that is given excludes, of those that are given.
+/// Returns the message that two of the given options of `join` can't be used together; none if all can.
 fn excluded(matches: &ArgMatches<'_>) -> Option<&'static str> {
     let checks = matches.get_flag("check");
     if checks && matches.get_flag("once") {
@@ -314,7 +317,7 @@ fn excluded(matches: &ArgMatches<'_>) -> Option<&'static str> {
     None
 }
 
-/// What `join` lacks besides the options that are given; nothing if it lacks none.
+/// Returns the options that `join` still needs, as text; it is empty if `join` needs none.
 fn missing(matches: &ArgMatches<'_>) -> &'static str {
     let lines = matches.get_flag("lines");
     if matches.contains_id("with") {
@@ -331,7 +334,7 @@ fn missing(matches: &ArgMatches<'_>) -> &'static str {
     }
 }
 
-/// The option of `join` that is neither a port nor `-`, if there is one, and what it is.
+/// Returns the first of `--from` and `--to` that is neither a port nor `-`, if any: its name and its text.
 fn misplaced<'a>(matches: &ArgMatches<'a>) -> Option<(&'static str, &'a str)> {
     for id in ["from", "to"] {
         if let Some(text) = text_of(matches, id) {
@@ -343,12 +346,12 @@ fn misplaced<'a>(matches: &ArgMatches<'a>) -> Option<(&'static str, &'a str)> {
     None
 }
 
-/// Whether the options of `join` can't be given together, or one is missing or is no port.
+/// Returns whether options of `join` can't be used together, or one is missing or is no port.
 fn is_troubled(matches: &ArgMatches<'_>) -> bool {
     misplaced(matches).is_some() || excluded(matches).is_some() || !missing(matches).is_empty()
 }
 
-/// The error of a join whose options can't be given together, or where one is missing or is no port.
+/// Returns the error for options of `join` that can't be used together, or for one that is missing or is no port.
 fn trouble_error(alloc: Global, matches: &ArgMatches<'_>) -> Result<Error, AllocError> {
     let mut command = join_command(alloc)?;
     if let Some((id, text)) = misplaced(matches) {
@@ -367,7 +370,7 @@ fn trouble_error(alloc: Global, matches: &ArgMatches<'_>) -> Result<Error, Alloc
     command.error(ErrorKind::MissingRequiredArgument, message.as_str())
 }
 
-/// The port and the numbers of `follow`, and its flags.
+/// Returns the options of `follow`.
 fn follow_options<'a>(matches: &ArgMatches<'a>) -> Option<Options<'a>>
     ensures { IfSome result (λ options. (name_of options ≡ codes "follow")
         × GivesNumbers (rows_of (found_of matches.now)) options) }
@@ -386,7 +389,7 @@ fn follow_options<'a>(matches: &ArgMatches<'a>) -> Option<Options<'a>>
     }))
 }
 
-/// The port of `talk`, and its flag.
+/// Returns the options of `talk`.
 fn talk_options<'a>(matches: &ArgMatches<'a>) -> Option<Options<'a>>
     ensures { IfSome result (λ options. (name_of options ≡ codes "talk")
         × GivesNumbers (rows_of (found_of matches.now)) options) }
@@ -396,7 +399,7 @@ fn talk_options<'a>(matches: &ArgMatches<'a>) -> Option<Options<'a>>
     Some(Options::Talk(TalkOptions { to, explain }))
 }
 
-/// The file of `squash`, and what it takes of its lines; none if it would leave some of its file out.
+/// Returns the options of `squash`; none with `--keep` and one of `--until` and `--without`.
 fn squash_options<'a>(matches: &ArgMatches<'a>) -> Option<Options<'a>>
     ensures { IfSome result (λ options. (name_of options ≡ codes "squash")
         × GivesNumbers (rows_of (found_of matches.now)) options) }
@@ -414,12 +417,12 @@ fn squash_options<'a>(matches: &ArgMatches<'a>) -> Option<Options<'a>>
     }))
 }
 
-/// Whether the options of `squash` would leave out some of a file in its place.
+/// Returns whether `--keep` is given with `--until` or `--without`. The kept file would lose changes then.
 fn squashes_in_part(matches: &ArgMatches<'_>) -> bool {
     matches.contains_id("keep") && (matches.contains_id("until") || matches.contains_id("without"))
 }
 
-/// The error of a squash in its place that would leave some out.
+/// Returns the error for `--keep` with `--until` or `--without`.
 fn in_part_error(alloc: Global) -> Result<Error, AllocError> {
     squash_command(alloc)?.error(
         ErrorKind::ArgumentConflict,
@@ -427,7 +430,7 @@ fn in_part_error(alloc: Global) -> Result<Error, AllocError> {
     )
 }
 
-/// The options of a command by its name.
+/// Returns the options of the command with this name.
 fn options_of<'a>(name: &str, matches: &ArgMatches<'a>) -> Option<Options<'a>>
     ensures { IfSome result (λ options. (name_of options ≡ name.now)
         × GivesNumbers (rows_of (found_of matches.now)) options) }
@@ -445,10 +448,14 @@ fn options_of<'a>(name: &str, matches: &ArgMatches<'a>) -> Option<Options<'a>>
     }
 }
 
-/// Reads the program's words; the first is the program's own name.
+/// Returns the command and the options that the program's words ask for; the first word is the program's own name.
 ///
-/// The command, its numbers and its texts are those of `clap`'s matches. If the words are refused, or ask for help or
-/// the version, the error has the text and the exit status.
+/// The numbers, texts and flags are those that `clap` finds in the words.
+///
+/// # Errors
+///
+/// - The words are refused, or ask for help or the version: the error has the text to print and the exit status.
+/// - Out of memory.
 ///
 /// Cost: O(n) in the n bytes of the words.
 pub fn read_words<'a>(alloc: Global, words: &'a [String]) -> Result<Options<'a>, Error>
@@ -473,7 +480,7 @@ pub fn read_words<'a>(alloc: Global, words: &'a [String]) -> Result<Options<'a>,
 /// The message for words that ask for the command `page`.
 pub const PAGE_IS_GONE: &str = "sheet page is gone: sheet serve has the page at its own port";
 
-/// Whether the program's words ask for the command `page`, which earlier versions had.
+/// Returns whether the word after the program's name is `page`, a command of earlier versions.
 pub fn asks_for_page(words: &[String]) -> bool
     ensures { result ≡ asks_for_page (map string_bytes words.now) }
 {

@@ -6,7 +6,7 @@ use Rattle.ps_lines.specs.Feeding.{HasNoFeed, kept}
 use Rattle.ps_lines.specs.Incomings.{due, lines_left}
 use Rattle.ps_lines.specs.declared.incoming.Incoming.{Incoming}
 
--- so much of it was taken in
+-- a part of the line was taken in, from the state `old` to the state `new`
 pub record IsReading {S : Type 0} {G : Ghosts S} (remaining : S → Option (List ℕ)) (left failures : S → ℕ)
     (old new : Incoming S G) : Type 0 where
   pub part : List ℕ

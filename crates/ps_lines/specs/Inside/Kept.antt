@@ -17,7 +17,7 @@ is_kept_verb (Some Push) = true
 is_kept_verb (Some Replica) = true
 is_kept_verb _ = false
 
--- what a line of such a verb says in a kept file, by what it asks a session for
+-- what a line with such a verb says in a kept file, given how a session reads the line
 abbrev pub SaysAsked : List ℕ → Read Command → Type 0
 SaysAsked line (Ok (commands.Push d)) = Pushes line d
 SaysAsked line (Ok (commands.Replica (Some n))) = (¬ IsPush line) × ((m : ℕ) → Tells line m → m ≡ n)

@@ -4,13 +4,13 @@ use Rattle.std.specs.Prelude.{length, take, min, if◌then◌else◌}
 use Rattle.std.specs.Io.KnownBytes.{Appends}
 use Rattle.ps_device.specs.Device.{Sends}
 
--- something was answered, and the reply was sent, or cut
+-- a line was answered, and the reply was sent, or cut
 abbrev pub Tells : {State E : Type 0} → (State → List ℕ → State → Type 0) → State → State → Option (List ℕ)
     → Option (List ℕ) → Result (Unit {0}) E → Type 0
 Tells Answers old new contents after result =
     (reply : List ℕ) × Answers old reply new × Sends contents after result reply
 
--- something was answered, or its reply was cut: the reply counts as `replies`
+-- a line was answered, and its reply was sent or cut. A reply that was sent counts as `replies`
 abbrev pub Replied : {State E : Type 0} → (State → List ℕ → State → Type 0) → State → State → ℕ → Option (List ℕ)
     → Option (List ℕ) → ℕ → ℕ
     → Result (Unit {0}) E → Type 0

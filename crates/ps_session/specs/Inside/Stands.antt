@@ -10,7 +10,7 @@ use Rattle.ps_lines.specs.Streams.{Answering, Run, Splits}
 abbrev pub counted_from : ℕ → List (List ℕ) → ℕ
 counted_from base lines = min (base + count_by has_reply lines) (2 ^ 64 - 1)
 
--- the complete lines read were answered, and what remains is held
+-- the complete lines that were read were answered, and the rest is held
 pub record Stands {State : Type 0} (Line : Answering State) (first : State) (written : Option (List ℕ)) (base : ℕ)
     (read : List ℕ)
     (last : State) (pending : Option (List ℕ)) (contents : Option (List ℕ)) (answered : ℕ) : Type 0 where
@@ -39,14 +39,14 @@ CutsShort {State} Line bytes old held before count new contents =
     → Stands Line first written base read old held before count
     → Cut Line ⊥ first written (read ++ bytes) new contents
 
--- what came so far, whatever it was, was taken in
+-- whatever came so far was taken in
 abbrev pub IsUnderWay : {State : Type 0} → Answering State → State → Option (List ℕ) → Option (List ℕ) → ℕ → Type 0
 IsUnderWay {State} Line last pending contents answered =
     (first : State) × (written : Option (List ℕ)) × (base : ℕ) × (read : List ℕ)
     × Stands Line first written base read last pending contents answered
 
--- the sink failed before the end of the input: the reply to one line was cut; or every line was answered, and what
--- waits could not be sent; or, where replies are held back, the first lines were answered
+-- the sink failed before the end of the input. The reply to one line was cut; or every line was answered, and what
+-- waits couldn't be sent. If replies are held back, it may also be that just the first lines were answered
 abbrev pub Breaks : {State : Type 0} → Answering State → Type 0 → State → Option (List ℕ) → List ℕ → State
     → Option (List ℕ) → Type 0
 Breaks Line holds_back first written read last contents =

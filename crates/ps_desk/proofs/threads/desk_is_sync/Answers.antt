@@ -16,7 +16,7 @@ lock_sync R s = search (crosses, sendable, s)
 bell_sync : IsSync (Condvar.the_field).row
 bell_sync = search (crosses, sendable)
 
--- from what is known of the parts that threads may share the whole
+-- threads may share the whole, since they may share each of its parts
 pub returns : goal.returns
 returns g c =
     let L : RattleType = param 0 g.row.L in

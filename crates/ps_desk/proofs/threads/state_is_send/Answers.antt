@@ -8,7 +8,7 @@ use Rattle.ps_face.specs.contracts.writer.FaceWriter as writer
 use Rattle.ps_desk.specs.contracts.state.DeskState.TheInside as inside
 use Rattle.ps_desk.proofs.threads.state_is_send.Goals as goal
 
--- from what is known of the parts that the whole may go to another thread
+-- the whole may go to another thread, since each of its parts may
 pub returns : goal.returns
 returns g c =
     let w : IsSend (writer.the_row g.row.L g.row.W g.L.Named g.L.Ledger) =

@@ -23,7 +23,7 @@ pub returns-in-Ok-keep_on-clause-have_lines : goal.returns-in-Ok-keep_on-clause-
 returns-in-Ok-keep_on-clause-have_lines g c =
     have_lines c.args.replica c.bytes.result.now c.in-Ok.sheet.history c.in-Ok.ensures.read
 
--- a file that can't be kept is refused, and had no line where it was for memory
+-- a file that can't be opened as a journal is refused; if memory was the reason, it had no whole line
 refused_then : {F : Type 0} (bytes_of : F → List ℕ) (replica : ℕ) (bytes : List ℕ) (fault : KeepFault)
     → IsKeepFault (whole_lines bytes) fault → IsRefusal bytes_of replica bytes fault None
 refused_then bytes_of replica bytes faults.Memory none = inr none

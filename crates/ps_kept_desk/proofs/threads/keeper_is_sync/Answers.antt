@@ -11,7 +11,7 @@ use Rattle.ps_kept_desk.proofs.threads.keeper_is_sync.Goals as goal
 lock_sync : (R : RattleType) → IsSend R → IsSync (Mutex.the_row R)
 lock_sync R s = search (crosses, sendable, s)
 
--- from what is known of what lies under the lock that threads may share the whole
+-- what lies under the lock may go to another thread, so threads may share the whole
 pub returns : goal.returns
 returns g c =
     let L : RattleType = param 0 g.row.L in

@@ -10,7 +10,7 @@ use Rattle.ps_kept_desk.specs.contracts.record.DurablePosition as kept
 use Rattle.ps_kept_desk.specs.contracts.record.Record.TheInside as inside
 use Rattle.ps_kept_desk.proofs.threads.record_is_send.Goals as goal
 
--- from what is known of the parts that the whole may go to another thread
+-- the parts may go to another thread, so the whole may
 pub returns : goal.returns
 returns g c =
     let L : RattleType = param 0 g.row.L in

@@ -10,7 +10,7 @@ pub returns-then-not-may_be_kept-clause-says : goal.returns-then-not-may_be_kept
 returns-then-not-may_be_kept-clause-says c =
     other_verb c.args.line.now (sym c.may_be_kept.ensures ∙ c.if-not-may_be_kept.true)
 
--- what was read says what the line does
+-- what a kept file's line says, by the command that was read
 said : (c : After-read) → SaysAsked c.args.line.now c.read.result
 said c =
     says_asked c.args.line.now c.read.result (sym c.may_be_kept.ensures ∙ c.if-not-may_be_kept.false)

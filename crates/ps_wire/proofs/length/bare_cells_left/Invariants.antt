@@ -4,6 +4,6 @@ use Rattle.ps_wire.specs.Length.{bare_value}
 use Rattle.ps_wire.proofs.SizeLemmas.{ended}
 use Rattle.ps_wire.proofs.length.bare_cells_left.Given as goal
 
--- of the room there is left what the first bracket and the cells so far don't take
+-- `left` is the room less what the first bracket and the cells so far take
 abbrev pub invariant-loop-cell : goal.invariant-loop-cell
 invariant-loop-cell l = l.left + 1 + sum_by (ended bare_value) (take l.cell-index l.cells) ≡ l.room

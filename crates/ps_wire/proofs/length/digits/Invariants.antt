@@ -3,7 +3,7 @@ use Rattle.ps_wire.specs.Length.{size}
 use Rattle.ps_wire.specs.Value.{whole}
 use Rattle.ps_wire.proofs.length.digits.Given as goal
 
--- each digit but the first is counted or is left
+-- `count` has the digits that were cut off `rest`, and one more
 abbrev pub invariant-digits : goal.invariant-digits
 invariant-digits l = record {
   counted : l.count + size (whole l.rest) ≡ 1 + size (whole l.number);
