@@ -39,7 +39,9 @@ fn started_with<L: Ledger, R: Threads + Sync>(
 {
     let mut meter = Meter::<L>::new(blank);
     let file = MemoryFile { bytes, calls: 9 };
-    match open_kept(rt, alloc, file, 1, 1, &mut meter) {
+    let opened = open_kept(rt, alloc, file, 1, 1, &mut meter);
+    meter.end();
+    match opened {
         Ok((sheet, _keeper)) => Ok(sheet.version()),
         Err(refused) => Err(refused),
     }

@@ -1,4 +1,4 @@
-//! The value of a formula over values that are no sheet's.
+//! Values of formulas over cells that belong to no sheet.
 
 ghost use Rattle.ps_grid.specs.Blanks.{IsBlankOf};
 
@@ -32,10 +32,12 @@ fn counted<L: Ledger>(blank: Blank, formula: &Formula) -> Value
     requires { IsBlankOf blank L.name L.parts }
 {
     let mut meter = Meter::<L>::new(blank);
-    eval(formula, &Sevens, &mut meter)
+    let value = eval(formula, &Sevens, &mut meter);
+    meter.end();
+    value
 }
 
-/// The value of a formula.
+/// Returns the value of the formula with this text, if all cells show 7.
 fn value_of(alloc: Global, text: &[u8]) -> Result<Value, Refusal> {
     let formula = Formula::read(alloc, text)?;
     Ok(counted::<Brand>(Blank::new(1), &formula))

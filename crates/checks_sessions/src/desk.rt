@@ -1,7 +1,7 @@
-//! Calls at a desk that are made again after one allocation is refused.
+//! Calls at a desk that are made again after one allocation failed. A desk is a sheet that several sessions share.
 //!
-//! A test passes whichever single allocation is refused in its process (`tests/test_refused.py`). If the refused one
-//! comes before the call under test, everything is done once more.
+//! A test passes whichever single allocation fails in its process (`tests/test_refused.py`). If the failing allocation
+//! comes before the call under test, the test starts again.
 
 ghost use Rattle.ps_grid.specs.Blanks.{IsBlankOf};
 ghost use Rattle.ps_desk.specs.Opening.{IsNamed};
@@ -27,16 +27,16 @@ use std::thread::Threads;
 enum Asked {
     /// Enter an entry into a cell; the answer is the number of the receipt.
     Enter(&'static str, &'static str),
-    /// Receive the delta of a line; the answer is the number of the receipt.
+    /// Receive the delta with this text; the answer is the number of the receipt.
     Receive(&'static str),
     /// Pull the deltas after a number; the answer is how many there are.
     Pull(u64),
 }
 
-/// A call, its answer, and what a cell shows then.
+/// A call, its expected answer, the name of a cell, and what that cell has to show afterwards.
 type Row = (Asked, u64, &'static str, Value);
 
-/// What a pass shows of each cell, the version that it is of, and how many deltas the pass appended.
+/// What a pass shows: the version, the values of all cells, and how many deltas the pass appended.
 #[derive(Drop)]
 struct Noted {
     version: u64,
@@ -48,12 +48,12 @@ fn cell(rt: &impl Abort, name: &str) -> Cell {
     Cell::read(name.as_bytes()).expect(rt, "a cell")
 }
 
-/// The cell at a position in the order of the grid.
+/// Returns the cell at a position in the order of the grid.
 fn at(rt: &impl Abort, position: usize) -> Cell {
     Cell::from_index(position).expect(rt, "a cell")
 }
 
-/// What the pass shows of a cell, with the version.
+/// Returns what a cell shows to the pass, after the version.
 fn read<L: DeskName>(rt: &impl Abort, pass: &mut Pass<L>, cell: Cell) -> (u64, Value) {
     let shot = pass.read(cell).expect(rt, "a desk");
     (shot.version, shot.value)
@@ -70,7 +70,7 @@ fn note<L: DeskName>(rt: &impl Abort, alloc: Global, pass: &mut Pass<L>) -> Resu
     })
 }
 
-/// The pass shows what was noted.
+/// Checks that the pass still shows what was noted.
 fn check_noted<L: DeskName>(rt: &impl Abort, pass: &mut Pass<L>, noted: &Noted) {
     assert_eq!(rt; pass.appended(), noted.appended);
     for (position, value) in noted.values.iter().enumerate() {
@@ -81,7 +81,7 @@ fn check_noted<L: DeskName>(rt: &impl Abort, pass: &mut Pass<L>, noted: &Noted) 
     }
 }
 
-/// The change made with a meter of its own.
+/// Makes a change with a new meter, and returns its receipt.
 fn made<L: DeskName, W: Wait + Drop, T: Threads + Wait + Sync, M: Ledger>(
     rt: &T,
     blank: Blank,
@@ -93,14 +93,16 @@ fn made<L: DeskName, W: Wait + Drop, T: Threads + Wait + Sync, M: Ledger>(
     requires { IsBlankOf blank M.name M.parts }
 {
     let mut meter = Meter::<M>::new(blank);
-    match change {
+    let made = match change {
         Change::Edit(edit) => desk.edit(rt, rt, alloc, pass, edit, &mut meter),
         Change::Delta(delta) => desk.receive(rt, rt, alloc, pass, delta, &mut meter),
         Change::Merge(delta) => desk.merge(rt, rt, alloc, pass, delta, &mut meter),
-    }
+    };
+    meter.end();
+    made
 }
 
-/// The number of a change's receipt, or why the change is refused.
+/// Makes a change, and returns the number of its receipt, or why it is refused.
 fn answer<L: DeskName, W: Wait + Drop, T: Threads + Wait + Sync>(
     rt: &T,
     alloc: Global,
@@ -123,7 +125,7 @@ fn received(alloc: Global, line: &str) -> Result<Change, Refusal> {
     Ok(Change::Delta(decode(alloc, line.as_bytes())?))
 }
 
-/// Makes a call at a desk.
+/// Makes a call at a desk, and returns its answer.
 fn ask<L: DeskName, W: Wait + Drop, T: Abort + Threads + Wait + Sync>(
     rt: &T,
     alloc: Global,
@@ -141,7 +143,8 @@ fn ask<L: DeskName, W: Wait + Drop, T: Abort + Threads + Wait + Sync>(
     }
 }
 
-/// Makes a call at a desk, and calls again if the first call is out of memory: both passes then show what they showed.
+/// Makes a call at a desk. If the call runs out of memory, checks that both passes show what they showed before, and
+/// makes the call again.
 fn ask_again<L: DeskName, W: Wait + Drop, T: Abort + Threads + Wait + Sync>(
     rt: &T,
     alloc: Global,
@@ -162,7 +165,7 @@ fn ask_again<L: DeskName, W: Wait + Drop, T: Abort + Threads + Wait + Sync>(
     }
 }
 
-/// Both passes show this value of a cell.
+/// Checks that both passes show this value of a cell, at the same version.
 fn check_both<L: DeskName>(
     rt: &impl Abort,
     first: &mut Pass<L>,
@@ -177,7 +180,7 @@ fn check_both<L: DeskName>(
     );
 }
 
-/// Goes through the rows at two seats of a desk. The first one calls, and then both show what is expected.
+/// Makes the call of each row with the first of two passes. Checks the answer, and what both passes show afterwards.
 fn go_through<L: DeskName, W: Wait + Drop, T: Abort + Threads + Wait + Sync>(
     rt: &T,
     alloc: Global,
@@ -194,8 +197,8 @@ fn go_through<L: DeskName, W: Wait + Drop, T: Abort + Threads + Wait + Sync>(
     Ok(())
 }
 
-/// Opens a desk over the parts of a sheet that shows nothing, and goes through the rows. A pass reads nothing once the
-/// desk is gone. If the desk can't be opened, it returns the sheet.
+/// Opens a desk with two slots from these parts, and makes and checks the calls of the rows ([`go_through`]). Checks
+/// that a pass reads nothing once the desk is gone. If the desk can't be opened, returns the sheet with the refusal.
 fn life<L: DeskName, T: Abort + Threads + Wait + Sync>(
     rt: &T,
     alloc: Global,
@@ -216,7 +219,7 @@ fn life<L: DeskName, T: Abort + Threads + Wait + Sync>(
     Ok(ended)
 }
 
-/// The same, with a desk of two seats.
+/// Does what [`life`] does, with a desk of two session slots over this sheet.
 fn over<T: Abort + Threads + Wait + Sync>(
     rt: &T,
     alloc: Global,
@@ -226,7 +229,7 @@ fn over<T: Abort + Threads + Wait + Sync>(
     life::<Brand, T>(rt, alloc, Parts::new(sheet, 2), rows)
 }
 
-/// A sheet that comes back from a refused opening has no delta and shows nothing.
+/// Checks that a sheet has no delta and shows nothing.
 fn check_empty(rt: &impl Abort, sheet: &Sheet) {
     assert!(rt; sheet.version() == 0);
     for position in 0..CELLS {
@@ -234,7 +237,8 @@ fn check_empty(rt: &impl Abort, sheet: &Sheet) {
     }
 }
 
-/// A second opening over the sheet that came back from a refused one. That refusal is `Memory`.
+/// Opens the desk again, over the sheet that a refused opening returned, and makes the calls of the rows. Checks that
+/// the opening was refused as out of memory, and that the sheet is empty.
 fn over_returned<T: Abort + Threads + Wait + Sync>(
     rt: &T,
     alloc: Global,
@@ -247,7 +251,7 @@ fn over_returned<T: Abort + Threads + Wait + Sync>(
     over(rt, alloc, sheet, rows).ok().expect(rt, "a desk")
 }
 
-/// The same, with a second opening if the first one is refused.
+/// Makes and checks the calls of the rows at a desk over a new sheet. If opening the desk is refused, opens it again.
 fn over_again<T: Abort + Threads + Wait + Sync>(
     rt: &T,
     alloc: Global,
@@ -259,7 +263,7 @@ fn over_again<T: Abort + Threads + Wait + Sync>(
     }
 }
 
-/// The same, with a second sheet if the first run is out of memory before a call.
+/// Does what [`over_again`] does, and starts again with another sheet if memory runs out before a call.
 fn check<T: Abort + Threads + Wait + Sync>(rt: &T, alloc: Global, rows: &[Row]) {
     let mut ended = over_again(rt, alloc, rows);
     if ended == Err(Refusal::Memory) {
@@ -268,13 +272,14 @@ fn check<T: Abort + Threads + Wait + Sync>(rt: &T, alloc: Global, rows: &[Row]) 
     assert!(rt; ended == Ok(()));
 }
 
-/// A refused `open` is `Memory`, and returns the sheet; the next one opens the desk. The parts take no memory.
+/// If `open` runs out of memory, it returns the sheet, and the next call opens the desk. Making the parts never
+/// allocates.
 #[test]
 fn refused_open(rt: HostRuntime) {
     check(&rt, rt.alloc(), &[]);
 }
 
-/// After a refused edit each pass shows and counts the same as before, and the next call makes the edit.
+/// After a refused edit, each pass shows and counts the same as before, and the next call makes the edit.
 #[test]
 fn refused_edit(rt: HostRuntime) {
     check(
@@ -288,7 +293,7 @@ fn refused_edit(rt: HostRuntime) {
     );
 }
 
-/// After a refused receipt each pass shows and counts the same as before, and the next call takes the delta.
+/// After a refused `receive`, each pass shows and counts the same as before, and the next call accepts the delta.
 #[test]
 fn refused_receive(rt: HostRuntime) {
     let both = r#"[["A1",[1,2,"5"],[],[]],["B1",[1,2,"=[.A1]*2"],[],[]]]"#;
@@ -304,7 +309,7 @@ fn refused_receive(rt: HostRuntime) {
     );
 }
 
-/// A refused pull is `Memory`, each pass shows the same as before, and the next call returns the deltas.
+/// If a pull runs out of memory, each pass shows the same as before, and the next call returns the deltas.
 #[test]
 fn refused_pull(rt: HostRuntime) {
     check(

@@ -16,7 +16,7 @@ use std::sync::ledger::{Blank, Ledger};
 use std::test::Fail;
 use std::thread::Threads;
 
-/// A reader that gives its bytes, and then fails or ends.
+/// A reader that returns its bytes, and then fails or ends.
 #[derive(Drop)]
 struct Given<'a> {
     bytes: &'a [u8],
@@ -35,7 +35,7 @@ impl Read for Given<'_> {
     }
 }
 
-/// A writer that stores what it gets, for so many calls, and then fails.
+/// A writer that stores what it gets for `calls` calls, and then fails.
 #[derive(Drop)]
 struct Keeper<'a> {
     kept: &'a RefCell<Vec<u8>>,
@@ -63,7 +63,7 @@ impl Write for Keeper<'_> {
     }
 }
 
-/// What a session answered, and the version of its sheet.
+/// The result of a session, and the version of its sheet.
 #[derive(Clone, Copy)]
 struct SessionEnd {
     ran: Result<u64, RunFault>,
@@ -85,16 +85,17 @@ fn ended<R: Threads + Sync, I: Ledger, O: Ledger, M: Ledger>(
 {
     let mut source = Reading::<Given, I>::new(given, input);
     let mut sink = Writing::<Keeper, O>::new(keeper, output);
-    let mut meter = Meter::<M>::new(count);
     let mut sheet = Sheet::open(alloc, 1, 1)?;
+    let mut meter = Meter::<M>::new(count);
     let ran = run(rt, alloc, &mut source, &mut sink, &mut sheet, &mut meter);
+    meter.end();
     Ok(SessionEnd {
         ran,
         version: sheet.version(),
     })
 }
 
-/// Runs the session of a reader, and stores its replies in a cell.
+/// Runs a session that reads from `given` and writes its replies to `keeper`.
 fn session<R: Threads + Sync>(
     rt: &R,
     alloc: Global,
@@ -112,7 +113,7 @@ fn session<R: Threads + Sync>(
     )
 }
 
-/// A source that fails in the middle of a line: the complete lines are answered, and the rest isn't carried out.
+/// If the source fails in the middle of a line, the complete lines are answered, and the rest isn't carried out.
 #[test]
 fn a_failing_source(rt: HostRuntime) -> Result<(), Fail> {
     let kept = RefCell::new(Vec::new(rt.alloc()));

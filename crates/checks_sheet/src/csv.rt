@@ -1,5 +1,5 @@
-//! The import of a table while an allocation may fail. The expected texts are worked by hand from the rules. Other
-//! tables are tests of the program (`tests/test_table.py`).
+//! The import of a table while an allocation may fail. The expected texts are worked out by hand. Other tables are
+//! tested with the whole program (`tests/test_table.py`).
 
 ghost use Rattle.ps_grid.specs.Blanks.{IsBlankOf};
 
@@ -14,7 +14,7 @@ use std::marker::Brand;
 use std::sync::ledger::{Blank, Ledger};
 use std::thread::Threads;
 
-/// Imports a reader's table, and counts on ledgers of these blanks.
+/// Imports a reader's table. The blanks start the counts of failures and of evaluations, which contracts read.
 fn taken<R: Threads + Sync, T: Read + Drop, I: Ledger, M: Ledger>(
     rt: &R,
     alloc: Global,
@@ -28,7 +28,9 @@ fn taken<R: Threads + Sync, T: Read + Drop, I: Ledger, M: Ledger>(
 {
     let mut source = Reading::<T, I>::new(reader, input);
     let mut meter = Meter::<M>::new(evaluations);
-    import(rt, alloc, &mut source, sheet, &mut meter)
+    let imported = import(rt, alloc, &mut source, sheet, &mut meter);
+    meter.end();
+    imported
 }
 
 /// The refusal of a fault, and the number of records that were applied.
@@ -36,7 +38,7 @@ fn refused(fault: ImportFault) -> (Refusal, usize) {
     (fault.refusal, fault.applied)
 }
 
-/// Imports a reader's table, with ledgers of its own.
+/// Imports a reader's table, with counts of its own.
 fn take_from<R: Threads + Sync, T: Read + Drop>(
     rt: &R,
     alloc: Global,
@@ -59,7 +61,7 @@ fn table_of(alloc: Global, sheet: &Sheet) -> Result<Vec<u8>, Refusal> {
 /// Five records. The second one refers to the third.
 const FIVE: &[u8] = b"1,=[.A1]*3\ntext,=[.A3]\n7,@tally\n@choice,=SUM([.A1:.A3])\n=MOD(1;0),\n";
 
-/// What the sheet shows of the first records, from none to all of them, each of them an edit of its own.
+/// What the sheet shows after the first 0, 1, 2 .. 5 records, as a table.
 static TABLES: [&[u8]; 6] = [
     b",\n,\n,\n,\n,\n",
     b"1,3\n,\n,\n,\n,\n",
@@ -69,7 +71,7 @@ static TABLES: [&[u8]; 6] = [
     b"1,3\ntext,7\n7,0\n{},8\n#DIV/0!,\n",
 ];
 
-/// Whether the sheet has exactly the first `count` of the five records.
+/// Whether the sheet shows what exactly the first `count` of the five records give.
 fn stand(alloc: Global, sheet: &Sheet, count: usize) -> Result<bool, Refusal> {
     let table = table_of(alloc, sheet)?;
     Ok(
@@ -79,7 +81,7 @@ fn stand(alloc: Global, sheet: &Sheet, count: usize) -> Result<bool, Refusal> {
     )
 }
 
-/// Imports the five records. Returns whether the sheet then has them all, and this version.
+/// Imports the five records. Returns whether the sheet then shows them all, and has this version.
 fn import_all<R: Threads + Sync>(
     rt: &R,
     alloc: Global,
@@ -113,7 +115,7 @@ fn import_again<R: Threads + Sync>(
     }
 }
 
-/// Does so with an empty sheet.
+/// Imports the five records into an empty sheet, as `import_again` does.
 fn refuse_import<R: Threads + Sync>(rt: &R, alloc: Global) -> Result<bool, Refusal> {
     let mut sheet = Sheet::open(alloc, 1, 1)?;
     let ended = import_again(rt, alloc, &mut sheet);
@@ -122,7 +124,7 @@ fn refuse_import<R: Threads + Sync>(rt: &R, alloc: Global) -> Result<bool, Refus
 }
 
 /// A refused import is `Memory`, and exactly the records that it counts as applied are in the sheet. The next import
-/// takes all.
+/// assigns all records.
 #[test]
 fn refused_import(rt: HostRuntime) {
     let mut found = refuse_import(&rt, rt.alloc());

@@ -1,4 +1,4 @@
-//! Small worlds with what each replica took and shows, worked by hand from the rules.
+//! Small worlds of several replicas. What each replica received and shows is compared with values worked out by hand.
 
 ghost use Rattle.ps_grid.specs.Blanks.{IsBlankOf};
 
@@ -16,7 +16,7 @@ use std::process::Abort;
 use std::sync::ledger::{Blank, Ledger};
 use std::thread::Threads;
 
-/// One event, all of them at A1.
+/// An event of a world; all of them are about A1.
 #[derive(Clone, Copy)]
 enum Step {
     Edited(u8, Asked),
@@ -35,7 +35,7 @@ fn event_of(rt: &impl Abort, alloc: Global, step: &Step) -> Result<Event, Refusa
     }
 }
 
-/// Plays the events with a meter of its own.
+/// Plays the events in a world of this many replicas, with a meter of its own.
 fn metered<R: Threads + Sync, L: Ledger>(
     rt: &R,
     blank: Blank,
@@ -46,7 +46,9 @@ fn metered<R: Threads + Sync, L: Ledger>(
     requires { IsBlankOf blank L.name L.parts }
 {
     let mut meter = Meter::<L>::new(blank);
-    play(rt, alloc, replicas, events, &mut meter)
+    let world = play(rt, alloc, replicas, events, &mut meter);
+    meter.end();
+    world
 }
 
 fn run<R: Threads + Sync>(
@@ -66,10 +68,10 @@ fn events_of(rt: &impl Abort, alloc: Global, steps: &[Step]) -> Result<Vec<Event
     Ok(events)
 }
 
-/// A replica, the numbers that it took, its version and what it shows at A1.
+/// A replica, the numbers of the deltas that it took, its version, and what it shows at A1.
 type Row = (u8, &'static [usize], u64, Seen);
 
-/// Whether a replica took these numbers and no other.
+/// Whether a replica took exactly the deltas with these numbers.
 fn took(world: &World, replica: u8, taken: &[usize]) -> bool {
     match world.taken(replica) {
         Some(numbers) => {
@@ -79,7 +81,7 @@ fn took(world: &World, replica: u8, taken: &[usize]) -> bool {
     }
 }
 
-/// A replica is as a row says.
+/// Asserts that a replica is as a row says.
 fn check_row(rt: &impl Abort, world: &World, (replica, taken, version, seen): &Row) {
     let sheet = world.sheet(*replica).expect(rt, "a replica");
     check_count(rt, sheet.version(), *version, "the version");
@@ -87,14 +89,14 @@ fn check_row(rt: &impl Abort, world: &World, (replica, taken, version, seen): &R
     assert!(rt; took(world, *replica, taken), "replica {replica}");
 }
 
-/// The replicas of a world are as the rows say.
+/// Asserts that the replicas of a world are as the rows say.
 fn check_rows(rt: &impl Abort, world: &World, rows: &[Row]) {
     for row in rows {
         check_row(rt, world, row);
     }
 }
 
-/// Plays the steps at as many replicas, which are then as the rows say.
+/// Plays the steps in a world of this many replicas, and asserts that they are then as the rows say.
 fn play_steps<R: Abort + Threads + Sync>(
     rt: &R,
     alloc: Global,
@@ -148,8 +150,9 @@ static STAMPED: [Step; 6] = [
 
 static STAMPED_SEEN: [Row; 2] = [(1, &[1, 2], 2, Num(4)), (2, &[1, 2], 1, Num(4))];
 
-/// Two replicas assign at the same time; deltas come twice, come to an unknown replica, or don't exist. Three replicas
-/// count, and each has seen another part. Two untrusted peers' deltas with the same stamp are received in both orders.
+/// First, two replicas assign at the same time; deltas come twice, come to an unknown replica, or don't exist. Then
+/// three replicas count, and each receives other deltas. Last, two foreign deltas with the same stamp come in both
+/// orders.
 #[test]
 fn replicas_show_what_they_took(rt: HostRuntime) -> Result<(), Refusal> {
     play_steps(&rt, rt.alloc(), 2, &GREATER, &GREATER_SEEN)?;

@@ -1,4 +1,4 @@
-//! The count of evaluations.
+//! A count of evaluations for contracts.
 
 ghost use Rattle.std.specs.Prelude.{◌≡◌, ◌+◌, ◌^◌, ◌<◌};
 ghost use Rattle.ps_grid.specs.Blanks.{IsBlankOf};
@@ -7,10 +7,9 @@ use ps_grid::GhostCount;
 use std::marker::Model;
 use std::sync::ledger::{Blank, Ledger};
 
-/// A count of evaluations that contracts see. It takes no bytes and has no greatest value.
+/// A count of evaluations that only contracts see. It takes no bytes and has no greatest value.
 ///
-/// Only evaluations make it rise: no other crate can tick it.
-#[derive(Drop)]
+/// A meter counts only real evaluations: `eval` and `eval_number` add one each, and `add` adds another meter's count.
 pub struct Meter<L: Ledger> {
     ticks: GhostCount<L>,
 }
@@ -23,8 +22,7 @@ impl<L: Ledger> Model for Meter<L> {
     ghost view = { λ m. m.ticks };
 }
 
-/// The count of a meter that ended. Only a meter makes it, and one thread may pass it to another.
-#[derive(Drop)]
+/// The count of one or several meters that ended. `Meter::finish` creates it; one thread may send it to another.
 pub struct Counted {
     ticks: u64,
 }
@@ -38,7 +36,7 @@ impl Model for Counted {
 }
 
 impl<L: Ledger> Meter<L> {
-    /// Creates a meter with the count 0, over a new ledger.
+    /// Creates a meter with the count 0. `blank` is the right to start the one ghost count that the type `L` names.
     pub fn new(blank: Blank) -> Meter<L>
         requires { IsBlankOf blank L.name L.parts }
         ensures { result ≡ 0 }
@@ -48,19 +46,27 @@ impl<L: Ledger> Meter<L> {
         }
     }
 
-    /// Ends the meter and returns its count, which the caller knows.
+    /// Ends the meter and returns its count. The caller passes the count as `ticks`, since a meter stores no number.
     pub fn finish(self, ticks: u64) -> Counted
         requires { ticks ≡ self }
         ensures { result ≡ self }
     {
+        self.end();
         Counted { ticks }
     }
 
-    /// Adds the count of another meter, such as a worker's.
+    /// Ends the meter where nobody needs its count: at the top of a program, which made it.
+    pub fn end(self) {
+        let Meter { ticks } = self;
+        drop(ticks);
+    }
+
+    /// Adds the count of other meters that ended, such as those of workers.
     pub fn add(&mut self, counted: Counted)
         ensures { self.new ≡ self.old + counted }
     {
-        self.ticks.add(counted.ticks);
+        let Counted { ticks } = counted;
+        self.ticks.add(ticks);
     }
 
     /// Counts one more evaluation.
@@ -77,8 +83,8 @@ impl Counted {
         requires { self + other < 2 ^ 64 }
         ensures { result ≡ self + other }
     {
-        Counted {
-            ticks: self.ticks + other.ticks,
-        }
+        let Counted { ticks: one } = self;
+        let Counted { ticks: more } = other;
+        Counted { ticks: one + more }
     }
 }

@@ -1,4 +1,4 @@
-//! One session over a connection.
+//! Runs one session over a connection, of lines or of a WebSocket.
 ghost use Rattle.std.specs.Prelude.{◌≡◌, ℕ, List, Err, IfSome, IsSome, IsSomeAnd, OnOk};
 ghost use Rattle.std.specs.Io.KnownBytes.{Consumes, IsAtEnd};
 ghost use mathlib.Core.List.{IsPrefix};
@@ -29,23 +29,24 @@ use std::sync::ledger::{Blank, Ledger};
 use std::thread::Threads;
 use std::time::{Clock, Duration};
 
-/// The room for replies that a session has from its beginning, in bytes: for those that are held back, and for one more
-/// reply that is no longer.
+/// The bytes that a session reserves at its start for replies: for those that are held back until they may be sent, and
+/// for one more that is no longer.
 const ROOM: usize = 2 * PIECE_BYTES;
 
-/// For how many milliseconds it is read what a browser has still sent, so that it gets the reason of the end. Its slot
-/// stays taken meanwhile.
+/// How long a browser's unread input is read after its session has ended, in milliseconds. Otherwise the browser may
+/// lose the reason of the end. The session's slot stays taken meanwhile.
 const DRAIN: u64 = 1;
 
-/// The end of a server's session; if the sessions have a keeper, all that it was sent is kept.
+/// The outcome of a server's session. With a keeper it has the token that all that the session sent is durable.
 pub(crate) type SessionEnd<L> = Attended<L, Option<DurablePosition<L>>>;
 
 /// Answers each line of a connection at a slot of a desk, to the end of its input.
 ///
-/// It sends only what is shown to all, and, if the sessions have a keeper, only what is kept as well.
+/// Once a reply is sent, all sessions can see the changes that it reports. With a keeper, these changes are durable,
+/// too.
 ///
-/// A failure of the connection ends the session early. So does a lack of memory before the first line; that line isn't
-/// read. If what the session has seen can't be kept, it stops all sessions.
+/// The session ends early if the connection fails. If there is no memory for its replies at the start, it ends without
+/// reading a line. If what it has seen can't be made durable, it stops all sessions.
 pub(crate) fn attend<
     L: DeskName,
     W: Wait + Drop,
@@ -95,15 +96,15 @@ pub(crate) fn attend<
     end
 }
 
-/// The connection of a browser, and how long it may be silent.
+/// The connection of a browser, and how long the browser may be silent.
 #[derive(Clone, Copy)]
 struct Browser<'a> {
     stream: &'a TcpStream,
     idle: Option<Duration>,
 }
 
-/// Answers each line of a connection whose first bytes were read already. `counts` counts its failures and its
-/// evaluations.
+/// Answers each line of a connection whose first bytes, `front`, were read already. `counts` counts failures of the
+/// connection and evaluations.
 fn attend_lines_of<
     L: DeskName,
     W: Wait + Drop,
@@ -139,7 +140,7 @@ fn attend_lines_of<
     attend_over::<L, W, R, D, _, _, N, M>(resources, at, shared, devices)
 }
 
-/// Answers each message of a browser. `counts` counts its failures and its evaluations.
+/// Answers each message of a browser. `counts` counts failures of the connection and evaluations.
 fn attend_browser<
     L: DeskName,
     W: Wait + Drop,
@@ -221,13 +222,14 @@ fn attend_over<
     };
     let mut meter = Meter::<M>::new(evaluations);
     let end = answer(resources, &mut source, &mut sink, at, shared, &mut meter);
+    meter.end();
     if matches!(end.ended, Err(RunFault::Keep)) {
         shared.stop();
     }
     end
 }
 
-/// The end of a session that carried out no line.
+/// Returns the outcome of a session that carried out no line.
 fn unread<L: DeskName>(pass: Pass<L>, fault: RunFault) -> SessionEnd<L>
     ensures pass { result.pass ≡ pass }
     ensures attended { IsAttended L.replica L.opening pass result.pass }
@@ -242,7 +244,7 @@ fn unread<L: DeskName>(pass: Pass<L>, fault: RunFault) -> SessionEnd<L>
 
 /// Answers each line of a source on an output at a slot of a desk, to the end of the input.
 ///
-/// If the sessions have a keeper, all that this one has seen is kept before any reply is sent.
+/// If the sessions have a keeper, all that this session has seen is made durable before any reply is sent.
 fn answer<
     L: DeskName,
     W: Wait + Drop,

@@ -247,7 +247,9 @@ fn on_standard<
         Options::Serve(options) => {
             let mut sink = console::<O>(rt, counts.output)?;
             let mut meter = Meter::<M>::new(counts.evaluations);
-            serve_sessions(rt, threads, &mut sink, &mut meter, options)
+            let done = serve_sessions(rt, threads, &mut sink, &mut meter, options);
+            meter.end();
+            done
         }
         Options::Sync(options) => {
             let mut sink = console::<O>(rt, counts.output)?;
@@ -292,12 +294,14 @@ fn on_standard<
         Options::Squash(options) => match options.keep {
             Some(path) => {
                 let mut meter = Meter::<M>::new(counts.evaluations);
-                squash_kept(
+                let done = squash_kept(
                     resources_of(rt, threads),
                     path,
                     &mut meter,
                     &mut rt.stderr(),
-                )
+                );
+                meter.end();
+                done
             }
             None => {
                 let mut source = Reading::<_, I>::new(rt.reader(), counts.input);
@@ -355,20 +359,24 @@ fn run_lines<R: Threads + Sync, I: Ledger, O: Ledger, M: Ledger>(
     requires output { IsBlankOf counts.output O.name O.parts }
     requires evaluations { IsBlankOf counts.evaluations M.name M.parts }
 {
-    let mut meter = Meter::<M>::new(counts.evaluations);
     let mut source = Reading::<_, I>::new(rt.reader(), counts.input);
     let mut sink = console::<O>(rt, counts.output)?;
     let told = is_explained(rt, options.explain).then_some(rt.stderr());
     let mut observer = Observer::new(rt.alloc(), told);
-    answer_lines(
+    let mut meter = Meter::<M>::new(counts.evaluations);
+    let done = answer_lines(
         resources_of(rt, threads),
         &mut source,
         &mut sink,
         &mut meter,
         options.sheet,
         &mut observer,
-    )?;
-    observer.end(options.strict)
+    );
+    meter.end();
+    match done {
+        Ok(()) => observer.end(options.strict),
+        Err(fault) => Err(fault),
+    }
 }
 
 /// Answers the lines of standard input on standard output by the sheet of a file. Standard error gets the opened file,
@@ -385,17 +393,20 @@ fn run_kept<R: Files<File = File> + Threads + Sync, I: Ledger, O: Ledger, H: Led
     requires held { IsBlankOf counts.held H.name H.parts }
     requires evaluations { IsBlankOf counts.evaluations M.name M.parts }
 {
-    let mut meter = Meter::<M>::new(counts.evaluations);
     let resources = resources_of(rt, threads);
     let reason = FailureReason::new(rt.alloc())?;
     let name = KeptName {
         path,
         reason: &reason,
     };
+    let mut meter = Meter::<M>::new(counts.evaluations);
     let opened = open_kept_sheet(resources, name, options.sheet, &mut meter);
     let (sheet, mut keeper) = match opened {
         Ok(opened) => opened,
-        Err(fault) => return Err(fault),
+        Err(fault) => {
+            meter.end();
+            return Err(fault);
+        }
     };
     let warner = tell_opened(rt.alloc(), path, &sheet, rt.stderr());
     let mut source = Reading::<_, I>::new(rt.reader(), counts.input);
@@ -412,6 +423,7 @@ fn run_kept<R: Files<File = File> + Threads + Sync, I: Ledger, O: Ledger, H: Led
         &mut meter,
         &mut observer,
     );
+    meter.end();
     let is_lost = keeper.into_journal().is_stopped();
     match done {
         Ok(()) => observer.end(options.strict),
@@ -443,7 +455,7 @@ fn serve_sessions<
         Some(path) => {
             let reason = FailureReason::new(rt.alloc())?;
             let name = KeptName {
-                path,
+                        path,
                 reason: &reason,
             };
             let closed = serve_kept(resources, options, name, out, rt.stderr(), meter)?;
@@ -500,6 +512,7 @@ fn put_table<R: Threads + Sync, I: Ledger, O: Ledger, M: Ledger>(
         options,
         &mut observer,
     );
+    meter.end();
     if let Some(text) = observer.into_out() {
         let _ = rt.stderr().write_all(&text);
     }

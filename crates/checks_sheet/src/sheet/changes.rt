@@ -1,4 +1,4 @@
-//! Changes of a sheet as tables write them, and what its cells then show.
+//! Short forms in which the tests write changes and shown values, and functions that make and check these.
 
 ghost use Rattle.std.specs.Prelude.{◌≡◌, IfErr, IfOk};
 ghost use Rattle.ps_grid.specs.Blanks.{IsBlankOf};
@@ -25,10 +25,10 @@ pub(crate) const CYCLE: Seen = Failed(Fault::Cycle);
 /// The report of a change: the version, and the numbers of evaluated formulas, of cyclic cells and of levels.
 pub(crate) type Figures = [u64; 4];
 
-/// What is asked of a cell.
+/// An edit of a cell.
 #[derive(Clone, Copy)]
 pub(crate) enum Asked {
-    /// To hold what this entry says.
+    /// Assigns what this entry says.
     Set(&'static str),
     Add(u64),
     Sub(u64),
@@ -36,10 +36,10 @@ pub(crate) enum Asked {
     Unchoose(u64),
 }
 
-/// What a delta has for a cell.
+/// What a delta changes in a cell.
 #[derive(Clone, Copy)]
 pub(crate) enum Part {
-    /// What an entry says, with a time and a replica.
+    /// An assignment: its time, its replica, and the entry that says the content.
     Assigned(u64, u8, &'static str),
 }
 
@@ -54,19 +54,19 @@ pub(crate) enum Seen {
     Failed(Fault),
 }
 
-/// `D1` closes a cycle and `B1` ends one.
+/// A delta in which `D1` closes a cycle and `B1` ends one.
 pub(crate) const OVER: &[(&str, Part)] = &[
     ("B1", Assigned(2, 2, "4")),
     ("D1", Assigned(2, 2, "=[.C1]")),
 ];
 
-/// The other way round.
+/// A later delta that undoes `OVER`: `B1` closes a cycle and `D1` ends one.
 pub(crate) const BACK: &[(&str, Part)] = &[
     ("B1", Assigned(3, 2, "=[.A1]")),
     ("D1", Assigned(3, 2, "7")),
 ];
 
-/// `BACK` and a number that is new beside it.
+/// The delta `BACK` with one more cell, a number in `E2`.
 pub(crate) const MORE: &[(&str, Part)] = &[
     ("B1", Assigned(3, 2, "=[.A1]")),
     ("D1", Assigned(3, 2, "7")),
@@ -77,7 +77,7 @@ pub(crate) fn cell(rt: &impl Abort, name: &str) -> Cell {
     Cell::read(name.as_bytes()).expect(rt, "a cell")
 }
 
-/// The change made with a meter of its own.
+/// Makes a change, with a meter of its own.
 fn made<L: Ledger, R: Threads + Sync>(
     rt: &R,
     blank: Blank,
@@ -88,11 +88,13 @@ fn made<L: Ledger, R: Threads + Sync>(
     requires { IsBlankOf blank L.name L.parts }
 {
     let mut meter = Meter::<L>::new(blank);
-    match change {
+    let made = match change {
         Change::Edit(edit) => sheet.edit(rt, alloc, edit, &mut meter),
         Change::Delta(delta) => sheet.receive(rt, alloc, delta, &mut meter),
         Change::Merge(delta) => sheet.merge(rt, alloc, delta, &mut meter),
-    }
+    };
+    meter.end();
+    made
 }
 
 pub(crate) fn make<R: Threads + Sync>(
@@ -104,7 +106,7 @@ pub(crate) fn make<R: Threads + Sync>(
     made::<Brand, R>(rt, Blank::new(1), alloc, sheet, change)
 }
 
-/// The change prepared with a meter of its own.
+/// Prepares a change, with a meter of its own.
 fn prepared<L: Ledger, R: Threads + Sync>(
     rt: &R,
     blank: Blank,
@@ -118,7 +120,9 @@ fn prepared<L: Ledger, R: Threads + Sync>(
     ensures kept { IfErr result (λ e. e.0 ≡ sheet) }
 {
     let mut meter = Meter::<L>::new(blank);
-    sheet.prepare(rt, alloc, change, &mut meter)
+    let prepared = sheet.prepare(rt, alloc, change, &mut meter);
+    meter.end();
+    prepared
 }
 
 pub(crate) fn prepare<R: Threads + Sync>(
@@ -143,7 +147,7 @@ fn figures_of(report: Report) -> Figures {
     ]
 }
 
-/// The figures that a change ends with.
+/// The figures of the report of a change, or its refusal.
 pub(crate) fn ended_with(answer: Result<Report, Refusal>) -> Result<Figures, Refusal> {
     Ok(figures_of(answer?))
 }
@@ -158,7 +162,7 @@ pub(crate) fn edit_of(alloc: Global, cell: Cell, asked: &Asked) -> Result<Edit, 
     }
 }
 
-/// Adds a cell with what an entry says.
+/// Appends to `cells` the cell of this name with the content that an entry says.
 fn add_entry(
     rt: &impl Abort,
     alloc: Global,
@@ -212,7 +216,7 @@ fn register(
     ))
 }
 
-/// Adds a cell with what a part says.
+/// Appends to `cells` the cell of this name with the state that a part says.
 fn add_part(
     rt: &impl Abort,
     alloc: Global,
@@ -247,7 +251,7 @@ pub(crate) fn delta_of(
     Ok(Delta::new(alloc, cells)?.expect(rt, "a delta"))
 }
 
-/// The value that a cell is to show.
+/// The value that `seen` stands for.
 pub(crate) fn value(rt: &impl Abort, seen: &Seen) -> Value {
     match seen {
         Empty => Value::Empty,
@@ -258,22 +262,22 @@ pub(crate) fn value(rt: &impl Abort, seen: &Seen) -> Value {
     }
 }
 
-/// The statement about this name holds.
+/// Asserts that a statement about the cell of this name holds.
 fn check(rt: &impl Abort, holds: bool, name: &str) {
     assert!(rt; holds, "{name}");
 }
 
-/// The statement about this position holds.
+/// Asserts that a statement about this position in the grid holds.
 pub(crate) fn check_place(rt: &impl Abort, holds: bool, place: usize) {
     assert!(rt; holds, "{place}");
 }
 
-/// The count is the expected one.
+/// Asserts that a count, called `name`, is the expected one.
 pub(crate) fn check_count(rt: &impl Abort, count: u64, expected: u64, name: &str) {
     assert_eq!(rt; count, expected, "{name}");
 }
 
-/// A cell shows this value.
+/// Asserts that the cell of this name shows this value.
 pub(crate) fn check_shown(rt: &impl Abort, sheet: &Sheet, name: &str, seen: &Seen) {
     check(rt, sheet.shown(cell(rt, name)) == value(rt, seen), name);
 }

@@ -1,5 +1,4 @@
-//! What a gate sees of a change that is prepared: how often each worker passes it. The expected numbers are worked by
-//! hand from the rules.
+//! How often each worker calls the gate while a change is prepared. The expected numbers are worked out by hand.
 
 ghost use Rattle.std.specs.Prelude.{◌≤◌};
 ghost use Rattle.ps_grid.specs.Blanks.{IsBlankOf};
@@ -30,7 +29,7 @@ fn wide(rt: &impl Abort, alloc: Global, count: usize) -> Result<Batch, Refusal> 
     Ok(Batch::new(cells).expect(rt, "a batch"))
 }
 
-/// An empty sheet into which they are entered as one batch.
+/// A sheet with the formulas of `wide`, entered as one batch.
 fn wide_sheet<R: Abort + Threads + Sync>(
     rt: &R,
     alloc: Global,
@@ -46,7 +45,7 @@ fn wide_sheet<R: Abort + Threads + Sync>(
     Ok(sheet)
 }
 
-/// Counts how often each worker passes.
+/// A gate that counts how often each worker passes it.
 #[derive(Drop)]
 struct Counting {
     passes: [AtomicU64; WORKERS],
@@ -58,10 +57,10 @@ impl Gate for Counting {
     }
 }
 
-/// How many workers pass, and how often each of them does.
+/// How many workers are expected to pass the gate, and how often each of them.
 type Shares = (usize, u64);
 
-/// The first workers have passed as often as each of them should, and no other worker has.
+/// Asserts that each of the first `workers` workers has passed `each` times, and no other worker has.
 fn check_shares(rt: &impl Abort, gate: &Counting, (workers, each): Shares) {
     for worker in 0..WORKERS {
         let due = if worker < workers { each } else { 0 };
@@ -70,7 +69,7 @@ fn check_shares(rt: &impl Abort, gate: &Counting, (workers, each): Shares) {
     }
 }
 
-/// The change prepared by a gate, with a meter of its own.
+/// Prepares a change with a gate, and with a meter of its own.
 fn prepared_by<L: Ledger, R: Threads + Sync>(
     rt: &R,
     blank: Blank,
@@ -82,10 +81,12 @@ fn prepared_by<L: Ledger, R: Threads + Sync>(
     requires { IsBlankOf blank L.name L.parts }
 {
     let mut meter = Meter::<L>::new(blank);
-    sheet.prepare_by(rt, gate, alloc, change, &mut meter)
+    let prepared = sheet.prepare_by(rt, gate, alloc, change, &mut meter);
+    meter.end();
+    prepared
 }
 
-/// Prepares that a cell holds a number. The workers pass the gate as often as expected.
+/// Prepares the edit that assigns a number to a cell, and asserts that the workers pass the gate as expected.
 fn count<R: Abort + Threads + Sync>(
     rt: &R,
     alloc: Global,
@@ -103,7 +104,8 @@ fn count<R: Abort + Threads + Sync>(
     prepared.ok().expect(rt, "a change that isn't refused")
 }
 
-/// Gives up a change of A1 and makes it. A change of B1 then reaches no formula.
+/// Prepares a change of A1 and gives it up, and then prepares it again and makes it. A change of B1 then reaches no
+/// formula.
 fn count_all<R: Abort + Threads + Sync>(rt: &R, alloc: Global, sheet: Sheet, shares: Shares) {
     let given_up = count(rt, alloc, sheet, "A1", 5, shares);
     let prepared = count(rt, alloc, given_up.cancel(), "A1", 5, shares);
@@ -118,8 +120,8 @@ fn count_all<R: Abort + Threads + Sync>(rt: &R, alloc: Global, sheet: Sheet, sha
 
 /// Each worker passes a gate as often as it evaluates a formula: 6,000 times, 4,097 times, 4,103 times, and never.
 ///
-/// A level is worth one worker for each 4,096 cells, and these workers have even shares. A change that is given up is
-/// counted again when it is made.
+/// A level gets one worker for each 4,096 formulas, and these workers have even shares. The evaluations count each time
+/// that the change is prepared, also when it is given up.
 #[test]
 fn gate_counts(rt: HostRuntime) -> Result<(), Refusal> {
     for (cells, workers, shares) in [
