@@ -13,6 +13,7 @@ NOTHING = ["s", 0, 0, 0]
 ALL = shortages.ALL
 # Why a file keeps a sheet no longer, where no call of the system failed.
 UNNAMED = "it was removed or replaced"
+MOVED = "its path doesn't lead to it any more"
 RESIZED = "it was cut, or another program wrote to it"
 NO_MEMORY = "there is no memory for its lines"
 

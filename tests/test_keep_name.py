@@ -1,4 +1,5 @@
-"""A kept file that is removed, replaced, cut or written to while a program keeps it: nothing more is acknowledged."""
+"""A kept file that is removed, moved, replaced, cut or written to while a program keeps it: nothing more is
+acknowledged."""
 import contextlib
 import os
 import subprocess
@@ -6,7 +7,7 @@ from itertools import product
 
 import peers
 from hunt import kept
-from keeping import RESIZED, UNNAMED, KeepingTest, replies_to, text_of
+from keeping import MOVED, RESIZED, UNNAMED, KeepingTest, replies_to, text_of
 from preloaded import PROGRAM
 from program import LIMIT, Ended, lines, run, started
 from servers import free_port, serving
@@ -15,12 +16,18 @@ COMMANDS = ("run", "serve")
 FIRST = ("set A1 1", "set A2 two", "set A3 =[.A1]*3")
 THEN = ("set A1 4", "set B2 5", "get A3")
 FOREIGN = text_of("set B1 8")
-# What another program does to the file, $1, with a file of its own, $2: its name leads to no file or another one,
+# What another program does to the file, $1, with a file of its own, $2: the file is gone,
 REPLACED = {
     "removed": 'rm "$1"',
     "another one moved over it": 'mv "$2" "$1"',
     "another one moved to where it was moved from": 'mv "$1" "$1.old" && mv "$2" "$1" && rm "$1.old"',
     "saved by an editor": 'cp "$1" "$1.new" && echo >> "$1.new" && mv "$1.new" "$1"',
+}
+# its name leads to no file or another one, and it has a name elsewhere,
+ELSEWHERE = {
+    "moved away": 'mv "$1" "$1.old"',
+    "moved away, and another one moved to its place": 'mv "$1" "$1.old" && mv "$2" "$1"',
+    "removed, with another name": 'ln -f "$1" "$1.old" && rm "$1"',
 }
 # it has other bytes,
 CHANGED = {
@@ -29,12 +36,11 @@ CHANGED = {
     "another one copied over it": 'cp "$2" "$1"',
     "written to": 'tail -n 1 "$2" >> "$1"',
 }
-# or all its lines are there, in a file of this name: its own or another one.
+# or all its lines are there, under its name.
 ALL_THERE = {
-    "moved away": ('mv "$1" "$1.old"', ".old"),
-    "removed, with another name": ('ln -f "$1" "$1.old" && rm "$1"', ".old"),
-    "moved away and back": ('mv "$1" "$1.old" && mv "$1.old" "$1"', ""),
-    "copied and read": ('cp "$1" "$1.old" && cat "$1" > "$2" && touch "$1"', ""),
+    "moved away and back": 'mv "$1" "$1.old" && mv "$1.old" "$1"',
+    "copied and read": 'cp "$1" "$1.old" && cat "$1" > "$2" && touch "$1"',
+    "with another name": 'ln "$1" "$1.link"',
 }
 
 
@@ -68,9 +74,14 @@ class Taken(Beside):
     def case(self, **which):
         """A case of its own: the file isn't there yet, and the other one is."""
         with self.subTest(**which):
-            self.file.unlink(missing_ok=True)
+            for file in (self.file, self.moved(), self.file.with_name("plan.lines.link")):
+                file.unlink(missing_ok=True)
             self.other.write_bytes(FOREIGN)
             yield
+
+    def moved(self):
+        """Where the file is once it was moved away."""
+        return self.file.with_name(self.file.name + ".old")
 
     def do(self, script):
         """Another program does this to the file."""
@@ -102,6 +113,36 @@ class Taken(Beside):
                 self.assertEqual(now, left)
                 self.assertEqual(kept.without_digests(was), text_of(*FIRST))
 
+    def test_a_file_that_was_moved(self):
+        """What was acknowledged is in the file that was moved, and what is under its name now stays as it is."""
+        for command, name in product(COMMANDS, ELSEWHERE):
+            with self.case(command=command, name=name):
+                left, now, was = self.assert_not_acknowledged(command, ELSEWHERE[name], MOVED)
+                self.assertEqual(now, left)
+                self.assertEqual(self.moved().read_bytes(), was)
+                self.assertEqual(kept.without_digests(was), text_of(*FIRST))
+
+    def test_a_file_whose_folder_was_moved(self):
+        """The path leads to nothing, or to another file in another folder."""
+        for command, script in product(COMMANDS, ('mv "${1%/*}" "$2"', 'mv "${1%/*}" "$2" && mkdir "${1%/*}" && : > "$1"')):
+            with self.subTest(command=command, script=script):
+                place = self.folder()
+                self.file, moved = place / "within" / "plan.lines", place / "elsewhere"
+                self.file.parent.mkdir()
+                self.other = moved
+                self.assert_not_acknowledged(command, script, MOVED)
+                self.assertEqual(kept.without_digests((moved / "plan.lines").read_bytes()), text_of(*FIRST))
+
+    def test_a_link_that_leads_elsewhere(self):
+        """A path that is a link leads to the file, and then to another one."""
+        for command in COMMANDS:
+            with self.case(command=command):
+                self.moved().touch()
+                self.file.symlink_to(self.moved())
+                _, now, was = self.assert_not_acknowledged(command, 'ln -sf "$2" "$1"', MOVED)
+                self.assertEqual(now, FOREIGN)
+                self.assertEqual(kept.without_digests(was), text_of(*FIRST))
+
     def test_a_file_that_was_cut_or_written_to(self):
         """It has what the other program left, and isn't cut."""
         for command, name in product(COMMANDS, CHANGED):
@@ -121,8 +162,8 @@ class Taken(Beside):
         self.assert_not_acknowledged("run", REPLACED["another one moved over it"], UNNAMED)
         self.assert_kept(b"get B1\n", b"val 8\n", FOREIGN, 1)
 
-    def test_a_file_that_is_all_there_somewhere(self):
-        for command, (name, (script, ending)) in product(COMMANDS, ALL_THERE.items()):
+    def test_a_file_that_is_all_there(self):
+        for command, (name, script) in product(COMMANDS, ALL_THERE.items()):
             with self.case(command=command, name=name):
                 with self.keeping(command) as (peer, ended):
                     self.assert_answered(peer, *FIRST)
@@ -131,8 +172,7 @@ class Taken(Beside):
                     peer.stop_sending()
                     closed = lines("closed 5") if command == "serve" else b""
                     self.assertEqual(ended(), Ended(0, closed, self.opened(0)))
-                place = self.file.with_name(self.file.name + ending)
-                self.assertEqual(kept.without_digests(place.read_bytes()), text_of(*FIRST, *THEN))
+                self.assertEqual(self.lines_kept(), text_of(*FIRST, *THEN))
 
     def test_all_sessions_of_a_server_end(self):
         with serving(None, "--keep", str(self.file)) as server:

@@ -23,13 +23,16 @@ use ps_words::SheetOptions;
 use std::alloc::{AllocError, Global};
 use std::fmt;
 use std::fs::File;
-use std::rt::Files;
+use std::rt::{Files, HostRuntime};
 use std::sync::ledger::Ledger;
 use std::thread::Threads;
 
-/// The path of a kept file, as it was given, and the reason for which its calls failed, if they did.
+/// The path of a kept file, as it was given, the system that it is on, and the reason for which its calls failed, if
+/// they did.
 #[derive(Clone, Copy)]
 pub struct KeptName<'a> {
+    /// The system.
+    pub system: HostRuntime,
     /// The path.
     pub path: &'a str,
     /// The reason.
@@ -49,7 +52,7 @@ pub enum KeptTrouble {
     Busy,
     /// It can't be opened, read or written.
     Unusable(FileCause),
-    /// While it kept a sheet it couldn't be written, or it was removed, replaced or cut. Without a reason memory
+    /// While it kept a sheet it couldn't be written, or it was removed, moved, replaced or cut. Without a reason memory
     /// lacked.
     Lost(Option<FileCause>),
 }
@@ -166,17 +169,13 @@ pub(crate) type OpenFile = (DigestedFile<FoundFile>, LineNumbers);
 /// digest line that isn't that of the lines before it. Refused as `Memory`.
 ///
 /// Cost: linear in the file, and twice its memory.
-pub(crate) fn open_file<R: Files<File = File>>(
-    rt: &R,
-    alloc: Global,
-    name: KeptName<'_>,
-) -> Result<OpenFile, ProgramFault>
+pub(crate) fn open_file(alloc: Global, name: KeptName<'_>) -> Result<OpenFile, ProgramFault>
     ensures clean { IfOk result (λ f. IsClean f.0.raw f.0.clean) }
     ensures refused { IfErr result (λ f. IsUnusable f ⊎ TellsTrouble KeptTrouble.Busy f ⊎ TellsDamage f) }
 {
     let path = name.path;
     let reason = name.reason.share()?;
-    let found = match FoundFile::open(rt, alloc, path, reason) {
+    let found = match FoundFile::open(name.system, alloc, path, reason) {
         Ok(found) => found,
         Err(FileFault::Memory) => return Err(ProgramFault::Refused(Refusal::Memory)),
         Err(FileFault::Device(cause)) => {
@@ -298,9 +297,9 @@ pub fn open_kept_sheet<R: Files<File = File> + Threads + Sync, L: Ledger>(
         ⊎ ((raw : List ℕ) × RefusesFile options.replica raw f)) }
 {
     if options.squash {
-        squash_first(resources, name.path, options.replica, meter);
+        squash_first(resources, name, options.replica, meter);
     }
-    let (found, numbers) = match open_file(resources.threads, resources.alloc, name) {
+    let (found, numbers) = match open_file(resources.alloc, name) {
         Ok(opened) => opened,
         Err(fault) => return Err(fault),
     };

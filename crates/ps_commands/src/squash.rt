@@ -25,7 +25,7 @@ use std::alloc::{AllocError, Global};
 use std::fmt;
 use std::fs::File;
 use std::io::Write;
-use std::rt::Files;
+use std::rt::{Files, HostRuntime};
 use std::sync::ledger::Ledger;
 use std::thread::Threads;
 
@@ -229,6 +229,7 @@ fn replica_told(alloc: Global, bytes: &[u8]) -> Result<u8, AllocError>
 ///
 /// Cost: that of [`shorten`].
 pub fn squash_kept<R: Files<File = File> + Threads + Sync, L: Ledger, W: Write>(
+    system: HostRuntime,
     resources: Resources<'_, R>,
     path: &str,
     meter: &mut Meter<L>,
@@ -245,10 +246,11 @@ pub fn squash_kept<R: Files<File = File> + Threads + Sync, L: Ledger, W: Write>(
     }
     let reason = FailureReason::new(alloc)?;
     let name = KeptName {
+        system,
         path,
         reason: &reason,
     };
-    let (found, numbers) = match open_file(threads, alloc, name) {
+    let (found, numbers) = match open_file(alloc, name) {
         Ok(opened) => opened,
         Err(fault) => return Err(fault),
     };
@@ -267,13 +269,13 @@ pub fn squash_kept<R: Files<File = File> + Threads + Sync, L: Ledger, W: Write>(
     }
 }
 
-/// Squashes the kept file of this path where that makes it at most half as long. Where it can't be squashed it stays:
+/// Squashes the kept file of this name where that makes it at most half as long. Where it can't be squashed it stays:
 /// the start that follows says why it isn't taken, if it isn't.
 ///
 /// Cost: that of [`shorten`].
 pub(crate) fn squash_first<R: Files<File = File> + Threads + Sync, L: Ledger>(
     resources: Resources<'_, R>,
-    path: &str,
+    name: KeptName<'_>,
     replica: u8,
     meter: &mut Meter<L>,
 )
@@ -287,12 +289,13 @@ pub(crate) fn squash_first<R: Files<File = File> + Threads + Sync, L: Ledger>(
     let Ok(own) = reason.share() else {
         return;
     };
-    let name = KeptName {
-        path,
+    let quiet = KeptName {
+        system: name.system,
+        path: name.path,
         reason: &reason,
     };
-    if let Ok((found, _)) = open_file(threads, alloc, name) {
-        let mut file = NamedFile::new(threads, alloc, path, found, own);
+    if let Ok((found, _)) = open_file(alloc, quiet) {
+        let mut file = NamedFile::new(threads, alloc, name.path, found, own);
         let asked = Shortening {
             replica,
             worth: Worth::Half,

@@ -5,12 +5,12 @@ use crate::device::{Device, Found};
 use crate::reason::FailureReason;
 use crate::trace::Trace;
 use ps_device::Failed;
-use std::alloc::Global;
-use std::fs::{File, OpenOptions, TryLockError};
+use std::alloc::{AllocError, Global};
+use std::fs::{File, Metadata, OpenOptions, TryLockError, metadata};
 use std::io::{ErrorKind, Read, Write};
 use std::os::unix::fs::MetadataExt;
 use std::path::{AsPath, Path};
-use std::rt::Files;
+use std::rt::HostRuntime;
 use std::{fmt, io};
 
 /// Why a file couldn't be opened.
@@ -35,6 +35,8 @@ pub enum FileCause {
     Removed,
     /// While it was kept open it lost its name.
     Unnamed,
+    /// While it was kept open it was moved, or its path led elsewhere.
+    Moved,
     /// While it was kept open it got another length than was written.
     Resized,
     /// The system gave no reason.
@@ -51,6 +53,7 @@ impl fmt::Display for FileCause {
             FileCause::NotRegular => write!(f, "it is no regular file"),
             FileCause::Removed => write!(f, "it was removed meanwhile"),
             FileCause::Unnamed => write!(f, "it was removed or replaced"),
+            FileCause::Moved => write!(f, "its path doesn't lead to it any more"),
             FileCause::Resized => write!(f, "it was cut, or another program wrote to it"),
             FileCause::Unknown => write!(f, "it can't be read or written"),
         }
@@ -76,10 +79,31 @@ fn fault_of(error: &io::Error) -> FileFault {
     }
 }
 
+/// The path by which a file was opened, and the system that opened it.
+#[derive(Drop)]
+struct FilePlace {
+    system: HostRuntime,
+    path: String,
+}
+
+impl FilePlace {
+    /// Returns why the path doesn't lead to this file, if it doesn't.
+    fn trouble(&self, file: &Metadata) -> Option<FileCause> {
+        match metadata(&self.system, self.path.as_str()) {
+            Ok(named) if named.dev() == file.dev() && named.ino() == file.ino() => None,
+            Ok(_) => Some(FileCause::Moved),
+            Err(error) if error.kind() == ErrorKind::NotFound => Some(FileCause::Moved),
+            Err(error) => Some(FileCause::of(&error)),
+        }
+    }
+}
+
 /// A file as it is found, locked against other processes that lock it.
 #[derive(Drop)]
 pub struct FoundFile {
     file: File,
+    /// where it was opened
+    place: FilePlace,
     /// what was read of it
     bytes: Vec<u8>,
     reason: FailureReason,
@@ -91,13 +115,17 @@ impl FoundFile {
     /// such a file isn't read. If a later call of the file fails, `reason` gets to know why.
     ///
     /// Cost: linear in the file, and its memory; one sync of the folder.
-    pub fn open<R: Files<File = File>>(
-        rt: &R,
+    pub fn open(
+        system: HostRuntime,
         alloc: Global,
         path: &str,
         reason: FailureReason,
     ) -> Result<FoundFile, FileFault> {
-        let mut file = open_or_make(rt, path)?;
+        let place = match path.to_string(alloc) {
+            Ok(path) => FilePlace { system, path },
+            Err(AllocError) => return Err(FileFault::Memory),
+        };
+        let mut file = open_or_make(&system, path)?;
         match file.try_lock() {
             Ok(()) => {}
             Err(TryLockError::WouldBlock) => return Err(FileFault::Busy),
@@ -112,11 +140,12 @@ impl FoundFile {
             Ok(_) => {}
             Err(error) => return Err(fault_of(&error)),
         }
-        sync_folder(rt, path)?;
+        sync_folder(&system, path)?;
         let mut bytes = Vec::new(alloc);
         match file.read_to_end(&mut bytes) {
             Ok(_) => Ok(FoundFile {
                 file,
+                place,
                 bytes,
                 reason,
             }),
@@ -126,14 +155,14 @@ impl FoundFile {
 }
 
 /// Opens the file of this path for reading and appending; made where there is none.
-fn open_or_make<R: Files<File = File>>(rt: &R, path: &str) -> Result<File, FileFault> {
-    match open_there(rt, path, false) {
+fn open_or_make(system: &HostRuntime, path: &str) -> Result<File, FileFault> {
+    match open_there(system, path, false) {
         Ok(file) => Ok(file),
-        Err(error) if error.kind() == ErrorKind::NotFound => match open_there(rt, path, true) {
+        Err(error) if error.kind() == ErrorKind::NotFound => match open_there(system, path, true) {
             Ok(file) => Ok(file),
             // another process was quicker
             Err(error) if error.kind() == ErrorKind::AlreadyExists => {
-                match open_there(rt, path, false) {
+                match open_there(system, path, false) {
                     Ok(file) => Ok(file),
                     Err(error) => Err(fault_of(&error)),
                 }
@@ -146,22 +175,22 @@ fn open_or_make<R: Files<File = File>>(rt: &R, path: &str) -> Result<File, FileF
 
 /// Opens a file for reading and appending: one that is there, or one that is made now, in the very folder that the path
 /// names.
-fn open_there<R: Files<File = File>>(rt: &R, path: &str, is_new: bool) -> io::Result<File> {
+fn open_there(system: &HostRuntime, path: &str, is_new: bool) -> io::Result<File> {
     OpenOptions::new()
         .read(true)
         .append(true)
         .create_new(is_new)
-        .open(rt, path)
+        .open(system, path)
 }
 
 /// Has the names of the file's folder on the disk, so that the file is there after a crash. At each start, since a
 /// crash may have come before an earlier one did so.
-fn sync_folder<R: Files<File = File>>(rt: &R, path: &str) -> Result<(), FileFault> {
+fn sync_folder(system: &HostRuntime, path: &str) -> Result<(), FileFault> {
     let folder = match Path::new(path).parent() {
         Some(parent) if !parent.path_text().is_empty() => parent,
         _ => Path::new("."),
     };
-    match File::open(rt, folder) {
+    match File::open(system, folder) {
         Ok(folder) => match folder.sync_all() {
             Ok(()) => Ok(()),
             Err(error) => Err(fault_of(&error)),
@@ -182,6 +211,7 @@ impl Found for FoundFile {
     fn keep(self, count: usize) -> Result<KeptFile, Failed> {
         let FoundFile {
             file,
+            place,
             bytes,
             reason,
         } = self;
@@ -194,6 +224,7 @@ impl Found for FoundFile {
         trace.note(&[1], &[]);
         Ok(KeptFile {
             file,
+            place,
             reason,
             trace,
             synced: count as u64,
@@ -219,11 +250,12 @@ fn noted(reason: &FailureReason, done: io::Result<()>) -> Result<(), Failed> {
 /// A file that is appended to. Its clauses say what the system's calls returned; that the system does what it returns
 /// is trusted.
 ///
-/// A sync also fails if the file was removed, replaced or cut, or another program wrote to it: then the next start may
-/// not find what was synced. A file of another length isn't cut afterwards.
+/// A sync also fails if the file was removed, moved, replaced or cut, or another program wrote to it: then the next
+/// start may not find what was synced. A file of another length isn't cut afterwards.
 #[derive(Drop)]
 pub struct KeptFile {
     file: File,
+    place: FilePlace,
     reason: FailureReason,
     trace: Trace,
     /// how many bytes it had when it was last synced
@@ -238,25 +270,26 @@ pub struct KeptFile {
 }
 
 impl KeptFile {
-    /// Returns whether the open file has a name and the length that was written.
+    /// Returns whether the path leads to the open file, and this has the length that was written.
     ///
-    /// It doesn't see that the file has another name now; then that file has all bytes. It doesn't see a change that
-    /// comes later, or that leaves the length as it was.
+    /// A change that comes later isn't seen, and none that leaves the length as it was.
     fn is_in_place(&self) -> bool {
+        match self.trouble() {
+            Some(cause) => {
+                self.reason.note(cause);
+                false
+            }
+            None => true,
+        }
+    }
+
+    /// Returns why the file isn't in its place, or why nobody can tell, if it is so.
+    fn trouble(&self) -> Option<FileCause> {
         match self.file.metadata() {
-            Ok(about) if about.nlink() == 0 => {
-                self.reason.note(FileCause::Unnamed);
-                false
-            }
-            Ok(about) if about.len() != self.end => {
-                self.reason.note(FileCause::Resized);
-                false
-            }
-            Ok(_) => true,
-            Err(error) => {
-                self.reason.note_error(&error);
-                false
-            }
+            Ok(about) if about.nlink() == 0 => Some(FileCause::Unnamed),
+            Ok(about) if about.len() != self.end => Some(FileCause::Resized),
+            Ok(about) => self.place.trouble(&about),
+            Err(error) => Some(FileCause::of(&error)),
         }
     }
 }

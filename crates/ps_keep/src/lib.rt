@@ -32,8 +32,8 @@
 //!
 //! The devices are memory ([`MemoryFile`], [`MemoryDevice`]), which can be made to fail, and a file of the system
 //! ([`FoundFile`], [`KeptFile`]). Clauses of the latter say what the system's calls returned. That the system keeps
-//! what it synced, in order, is trusted. A sync of a [`KeptFile`] also looks at the open file, and fails if this has no
-//! name or another length than was written. No clause says so. A journal has its device to its end. A caller that needs
+//! what it synced, in order, is trusted. A sync of a [`KeptFile`] also fails if the file's path no longer leads to it, or
+//! if it has another length than was written. No clause says so. A journal has its device to its end. A caller that needs
 //! the device afterwards passes a [`Found`] of its own that borrows it.
 //!
 //! A file has the lines `ab` and `cd` and a piece `e`: [`first_line`] reads `ab`, then `cd`, then none, and [`open`]

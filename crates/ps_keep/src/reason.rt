@@ -17,7 +17,9 @@ const UNNAMED: i32 = -3;
 
 const RESIZED: i32 = -4;
 
-const UNKNOWN: i32 = -5;
+const MOVED: i32 = -5;
+
+const UNKNOWN: i32 = -6;
 
 /// The reason of the first call of a file that failed, shared by the file and by whoever reports it. A
 /// [`Failed`](ps_device::Failed) has none.
@@ -51,6 +53,7 @@ impl FailureReason {
             FileCause::Removed => REMOVED,
             FileCause::Unnamed => UNNAMED,
             FileCause::Resized => RESIZED,
+            FileCause::Moved => MOVED,
             FileCause::System(_) | FileCause::Unknown => UNKNOWN,
         };
         let _ = self
@@ -71,6 +74,7 @@ impl FailureReason {
             REMOVED => Some(FileCause::Removed),
             UNNAMED => Some(FileCause::Unnamed),
             RESIZED => Some(FileCause::Resized),
+            MOVED => Some(FileCause::Moved),
             code if code > NONE => Some(FileCause::System(code)),
             _ => Some(FileCause::Unknown),
         }

@@ -295,6 +295,7 @@ fn on_standard<
             Some(path) => {
                 let mut meter = Meter::<M>::new(counts.evaluations);
                 let done = squash_kept(
+                    *rt,
                     resources_of(rt, threads),
                     path,
                     &mut meter,
@@ -396,6 +397,7 @@ fn run_kept<R: Files<File = File> + Threads + Sync, I: Ledger, O: Ledger, H: Led
     let resources = resources_of(rt, threads);
     let reason = FailureReason::new(rt.alloc())?;
     let name = KeptName {
+        system: *rt,
         path,
         reason: &reason,
     };
@@ -455,7 +457,8 @@ fn serve_sessions<
         Some(path) => {
             let reason = FailureReason::new(rt.alloc())?;
             let name = KeptName {
-                        path,
+                system: *rt,
+                path,
                 reason: &reason,
             };
             let closed = serve_kept(resources, options, name, out, rt.stderr(), meter)?;
