@@ -21,8 +21,8 @@ sed -n 's/^delta [0-9]* /push /p' $here/one $here/two > $here/lines
 # makes a difference.
 COMMANDS = {
     "run": "each line of standard input", "table": "CSV", "serve": "several sessions",
-    "sync": "one replica has to another", "join": "at the same changes", "follow": "lines to push",
-    "talk": "asks a server", "squash": "few push lines",
+    "sync": "one replica has to another", "join": "at the same changes", "follow": "as change lines",
+    "talk": "asks a server", "squash": "few change lines",
 }
 WITHOUT_NUMBER = ("--keep", "--squash", "--explain", "--strict", "--entries", "--until-now", "--once", "--check",
                   "--lines", "--title")

@@ -34,7 +34,7 @@ use std::alloc::{AllocError, Global};
 /// What `--version` prints after the program's name.
 const VERSION: &str = "0.1.0";
 
-/// The command `run`.
+/// Returns the command `run`.
 fn run_command<'a>(alloc: Global) -> Result<Command<'a>, AllocError>
     ensures app { IfOk result (λ command. app_of command ≡ run_app) }
     ensures local { IfOk result (λ command. (fields_of command).has_globals ≡ false) }
@@ -49,7 +49,7 @@ fn run_command<'a>(alloc: Global) -> Result<Command<'a>, AllocError>
     with_option(command, keep)
 }
 
-/// The command `table`.
+/// Returns the command `table`.
 fn table_command<'a>(alloc: Global) -> Result<Command<'a>, AllocError>
     ensures app { IfOk result (λ command. app_of command ≡ table_app) }
     ensures local { IfOk result (λ command. (fields_of command).has_globals ≡ false) }
@@ -63,7 +63,7 @@ fn table_command<'a>(alloc: Global) -> Result<Command<'a>, AllocError>
     with_option(command, explain)
 }
 
-/// The command `serve`.
+/// Returns the command `serve`.
 fn serve_command<'a>(alloc: Global) -> Result<Command<'a>, AllocError>
     ensures app { IfOk result (λ command. app_of command ≡ serve_app) }
     ensures local { IfOk result (λ command. (fields_of command).has_globals ≡ false) }
@@ -87,12 +87,12 @@ fn serve_command<'a>(alloc: Global) -> Result<Command<'a>, AllocError>
     with_sheet_options(alloc, with_option(command, title)?)
 }
 
-/// The command `sync`.
+/// Returns the command `sync`.
 fn sync_command<'a>(alloc: Global) -> Result<Command<'a>, AllocError>
     ensures app { IfOk result (λ command. app_of command ≡ sync_app) }
     ensures local { IfOk result (λ command. (fields_of command).has_globals ≡ false) }
 {
-    let about = "hands all that one replica has to another";
+    let about = "pushes all that one replica has to another";
     let from = needed_option(alloc, "from", LAST_PORT, FROM_HELP);
     let command = with_option(new_command(alloc, "sync", about, SYNC_HELP), from)?;
     let to = needed_option(alloc, "to", LAST_PORT, TO_HELP);
@@ -101,7 +101,7 @@ fn sync_command<'a>(alloc: Global) -> Result<Command<'a>, AllocError>
     with_option(command, explain)
 }
 
-/// The command `join`.
+/// Returns the command `join`.
 pub(crate) fn join_command<'a>(alloc: Global) -> Result<Command<'a>, AllocError>
     ensures app { IfOk result (λ command. app_of command ≡ join_app) }
     ensures local { IfOk result (λ command. (fields_of command).has_globals ≡ false) }
@@ -123,12 +123,12 @@ pub(crate) fn join_command<'a>(alloc: Global) -> Result<Command<'a>, AllocError>
     with_option(command, explain)
 }
 
-/// The command `follow`.
+/// Returns the command `follow`.
 fn follow_command<'a>(alloc: Global) -> Result<Command<'a>, AllocError>
     ensures app { IfOk result (λ command. app_of command ≡ follow_app) }
     ensures local { IfOk result (λ command. (fields_of command).has_globals ≡ false) }
 {
-    let about = "writes what a replica has and gets as lines to push";
+    let about = "writes what a replica has and gets as change lines";
     let from = needed_option(alloc, "from", LAST_PORT, FOLLOWED_HELP);
     let command = with_option(new_command(alloc, "follow", about, FOLLOW_HELP), from)?;
     let after = usual_option(alloc, "after", 0, MOST_CHANGES, "0", AFTER_HELP);
@@ -148,7 +148,7 @@ fn follow_command<'a>(alloc: Global) -> Result<Command<'a>, AllocError>
     with_option(command, explain)
 }
 
-/// The command `talk`.
+/// Returns the command `talk`.
 fn talk_command<'a>(alloc: Global) -> Result<Command<'a>, AllocError>
     ensures app { IfOk result (λ command. app_of command ≡ talk_app) }
     ensures local { IfOk result (λ command. (fields_of command).has_globals ≡ false) }
@@ -160,12 +160,12 @@ fn talk_command<'a>(alloc: Global) -> Result<Command<'a>, AllocError>
     with_option(command, explain)
 }
 
-/// The command `squash`.
+/// Returns the command `squash`.
 pub(crate) fn squash_command<'a>(alloc: Global) -> Result<Command<'a>, AllocError>
     ensures app { IfOk result (λ command. app_of command ≡ squash_app) }
     ensures local { IfOk result (λ command. (fields_of command).has_globals ≡ false) }
 {
-    let about = "makes few push lines of many delta lines";
+    let about = "makes few change lines of many delta lines";
     let keep = text_option(alloc, "keep", SQUASHED_HELP);
     let command = with_option(new_command(alloc, "squash", about, SQUASH_HELP), keep)?;
     let until = ranged_option(alloc, "until", 1, MOST_CHANGES, UNTIL_HELP);
@@ -174,7 +174,7 @@ pub(crate) fn squash_command<'a>(alloc: Global) -> Result<Command<'a>, AllocErro
     with_option(command, without)
 }
 
-/// The whole command line.
+/// Returns the whole command line: `sheet` with all its commands.
 pub(crate) fn sheet_command<'a>(alloc: Global) -> Result<Command<'a>, AllocError>
     ensures { IfOk result (λ command. app_of command ≡ sheet_app) }
 {

@@ -23,7 +23,7 @@ pub const WAIT_HELP: &str = "how many seconds a connection may wait for a seat, 
 
 /// What `--idle` means, with the range 1 to `LONGEST_IDLE`.
 pub const IDLE_HELP: &str =
-    "how many seconds a peer may be silent, 1 to 86400; without it, 30 until its first line, and no limit then";
+    "how many seconds a peer may be silent, 1 to 86400; without it, 30 until its first line, then no limit, or 300 for a browser";
 
 /// What `--keep` means.
 pub const KEEP_HELP: &str =
@@ -31,7 +31,7 @@ pub const KEEP_HELP: &str =
 
 /// What `--squash` means.
 pub const SQUASH_FIRST_HELP: &str =
-    "squashes the file of --keep first, where that makes it at most half as long";
+    "squashes the file of --keep first, if that makes it at most half as long";
 
 /// What `--keep` of `squash` means.
 pub const SQUASHED_HELP: &str =
@@ -60,7 +60,7 @@ pub const JOINED_SECOND_HELP: &str = "the port of the other replica, 1 to 65535,
 
 /// What `--with` means.
 pub const RELAYED_HELP: &str =
-    "the port of the one replica that --lines merges at and writes of, 1 to 65535";
+    "the port of the replica that --lines merges at, and whose changes it writes, 1 to 65535";
 
 /// What `--lines` means.
 pub const LINES_HELP: &str =
@@ -94,20 +94,20 @@ pub const TITLE_HELP: &str =
 
 /// What `--explain` means.
 pub const EXPLAIN_HELP: &str =
-    "tells on standard error what is refused or looks like a number, with a hint";
+    "prints on standard error what is refused or looks like a number, with a hint";
 
 /// What `--explain` of a command with a port means.
-pub const PORT_EXPLAIN_HELP: &str = "tells on standard error why a port can't be had";
+pub const PORT_EXPLAIN_HELP: &str = "prints on standard error why a port can't be used";
 
 /// What `--explain` of `talk` means.
 pub const TALK_EXPLAIN_HELP: &str =
-    "tells on standard error what is refused or looks like a number, and why a port can't be had";
+    "prints on standard error what is refused or looks like a number, and why a port can't be used";
 
 /// What `--strict` means.
-pub const STRICT_HELP: &str = "ends with status 3 where a line was refused";
+pub const STRICT_HELP: &str = "ends with status 3 if a line was refused";
 
 /// What `--entries` means.
-pub const ENTRIES_HELP: &str = "writes the entries of the cells, in place of what they show";
+pub const ENTRIES_HELP: &str = "writes the entries of the cells instead of what they show";
 
 /// What stands below the commands of `sheet --help`: an example of each, and the refusals.
 pub const SHEET_HELP: &str = "\
@@ -124,7 +124,7 @@ Examples:
   sheet help serve
   sheet --version
 
-What is refused changes nothing, and is told by `err`, a number and a name:
+A refusal changes nothing, and is printed as `err`, a number and a name:
 
    1 cell        name a cell, A1 to CZ1024, its letters in capitals
    2 text        keep a text to 64 bytes of UTF-8, without tabs
@@ -145,11 +145,11 @@ What is refused changes nothing, and is told by `err`, a number and a name:
   17 version     pull from a version that there is, and at most 16 deltas
   18 csv         divide the table: it has at most 1024 records of 104 fields
   19 memory      try again once there is more memory
-  20 device      see to the input, the output, the port or the connection
+  20 device      check the input, the output, the port or the connection
   21 seat        come again once a session has ended
 
-`run`, `table` and `talk` with `--explain` tell each refusal's line or cell, with a
-hint, and the commands that have a port tell with it why that can't be had.";
+With `--explain`, `run`, `table` and `talk` print each refusal's line or cell with a
+hint, and the commands that have a port print why that port can't be used.";
 
 /// What stands below the options of `sheet run --help`.
 pub const RUN_HELP: &str = "\
@@ -172,11 +172,11 @@ Each line of standard input is a command, and has a reply on standard output:
   replica               whose sheet it is            replica 1
 
 `ok` comes with the version, the number of changes so far; `err` with the number
-and the name of what was refused (`sheet --help` lists them), and the session goes
-on: the status is 0 in the end, or 3 with `--strict`. The line that a `pull` gives
-can be kept, and be pushed at another replica, in any order and again. Cells are
+and the name of the refusal (`sheet --help` lists them), and the session goes on:
+the status is 0 in the end, or 3 with `--strict`. The line that `pull` returns can
+be stored, and pushed to another replica, in any order and more than once. Cells are
 A1 to CZ1024. A formula is written =SUM([.A1:.A3])*2, and anything that is no
-number and no formula is a text. What a cell holds is told by its canonical text:
+number and no formula is a text. What a cell holds is written as a canonical text:
 007 as 7, and a text with an apostrophe before it.
 
 Examples:
@@ -187,16 +187,16 @@ Examples:
   sheet run --keep plan.lines --squash < my.lines
 
 With `--keep` the sheet begins with what the file has, and each change is on the disk
-before its `ok` is written. The file is text, a line `replica` and lines to push, so
-`sheet run < plan.lines` shows the sheet, too. Standard error tells what was opened:
-`opened plan.lines, 306 changes`.";
+before its `ok` is written. The file is text, a line `replica` and change lines, so
+`sheet run < plan.lines` shows the sheet, too. Standard error gets the name of the
+file and the number of its changes: `opened plan.lines, 306 changes`.";
 
 /// What stands below the options of `sheet table --help`.
 pub const TABLE_HELP: &str = "\
 Standard input is a table of CSV: its first record goes to row 1, its first field
-to column A. A field is an entry, as in `set`: a number, a formula, a text. What
-comes out is the table of what the cells show, or with `--entries` of the canonical
-texts of what they hold, which can be taken in again.
+to column A. A field is an entry, as in `set`: a number, a formula, a text. The
+output is the table of what the cells show, or with `--entries` of what they hold,
+as canonical texts that can be read in again.
 
 Examples:
 
@@ -212,17 +212,18 @@ writes
 
 /// What stands below the options of `sheet serve --help`.
 pub const SERVE_HELP: &str = "\
-It opens an empty sheet, listens on this machine, 127.0.0.1, and writes `listening`
-and the port. Each connection is a session: its lines are commands, as in `run`,
-and all sessions change and read the one sheet side by side. Standard error has the
-address of its page, at the same port: each browser that opens it has a session, too.
-When a session ends, its seat goes to the next one. One that finds no free seat waits
-for one; after the time to wait it is answered `err 21 seat` and closed.
+It opens a sheet, which is empty unless the file of `--keep` has changes, listens on
+this machine, 127.0.0.1, and writes `listening` and the port. Each connection is a
+session: its lines are commands, as in `run`, and all sessions change and read the
+one sheet side by side. Standard error gets the address of the sheet's page, at the
+same port: each browser that opens the page has a session, too. When a session ends,
+the next one gets its seat. A connection that finds no free seat waits for one; after
+the time of `--wait` it gets `err 21 seat` and is closed.
 
 With `--sessions` it writes `closed` and the number of changes once so many sessions
-have ended, and ends. The sheet ends with it, but for what `--keep` keeps in a file:
-each change is on the disk there before its `ok` is written, and the next server with
-that file begins with all of them.
+have ended, and ends. Without `--keep` the sheet is gone then. With it, each change is
+on the disk before its `ok` is written, and the next server with that file begins with
+all of them.
 
 Examples:
 
@@ -245,8 +246,8 @@ each of them with a `set`, and have ended
 pub const SYNC_HELP: &str = "\
 Both replicas listen on this machine, 127.0.0.1. All deltas of the first are
 pulled, from version 0 on, up to 16 in a line, and each line is pushed to the
-second; what the second has already changes nothing. At the end comes `synced`
-and the number of lines. Nothing goes the other way: for that call it again with
+second; what the second has already changes nothing. At the end it writes `synced`
+and the number of lines. Nothing goes the other way: for that, run it again with
 the ports exchanged.
 
 Examples:
@@ -266,7 +267,7 @@ merged at the second one, and then all that the second one has at the first. Aft
 that each new change of one goes to the other at once, until the command is stopped.
 A change that a replica has already changes nothing there.
 
-It connects again where a connection ends or a port can't be connected to: after 0.1
+It connects again when a connection ends or a port can't be connected to: after 0.1
 seconds, then after twice as long each time, at most 10 seconds. Standard error gets
 `joined 7001 and 7002` whenever both are at the same changes over new connections,
 and a line `port 7002: ..` with the reason when one of them is lost.
@@ -279,10 +280,10 @@ the cells hold: contents, counters and sets, shown or not. Then it writes `in st
 and both versions; or `differ`, the number of cells that differ and the first 20 of
 them, row by row, and the exit status is 3.
 
-With - in place of one port, standard input and output lead to that replica: bytes
-that it writes come in, and the lines that it is asked go out. Standard error has
-`joined - and 7002` then. The command ends where either of both is lost, with status
-1, as it can't open that connection again.
+With - in place of one port, standard input and output lead to that replica: what it
+writes comes in, and the lines that are sent to it go out. Standard error gets
+`joined - and 7002` then. The command ends with status 1 when either of the two is
+lost, as it can't open standard input again.
 
 Examples:
 
@@ -301,10 +302,10 @@ and the third one then, say,
 With --with and --lines there is one replica, and lines in place of the other one.
 Each line `merge ..` of standard input is merged. Each change that didn't come in so
 is written as such a line on standard output, at once; first all that the replica
-has. A line that is refused is told with its number on standard error, and passed
-over. At the end of the input it ends once all is merged and written, with status 0.
-A connection that ends is opened again, and all is written again; with --once it
-ends the command. So one process is enough for a broker's topic:
+has. A refused line is skipped, and standard error gets its number. At the end of the
+input the command ends once all is merged and written, with status 0. When the
+connection ends, it is opened again, and all is written again; with --once the
+command ends. So one process is enough for a broker's topic:
 
   mosquitto_sub -t plan | sheet join --with 7001 --lines | mosquitto_pub -l -t plan";
 
@@ -312,11 +313,11 @@ ends the command. So one process is enough for a broker's topic:
 pub const FOLLOW_HELP: &str = "\
 The replica listens on this machine, 127.0.0.1. All that it has is written on
 standard output, from the first change on or after the first ones that --after
-passes over, up to 16 changes in a line, each line after the word `push`; and then
-each new change as it comes, until the replica closes the connection or whoever
-reads on does. Any other replica may be given the lines, in any order and again.
-With --until-now it ends once it has all there is; a replica that closes before
-that is refused as `err 15 line`.
+passes over, up to 16 changes in a line, each line after the word `push`. Then each
+new change is written as it comes, until the replica closes the connection or the
+reader closes the output. Any other replica takes the lines in, in any order and more
+than once. With --until-now it ends once all that the replica has is written; a
+replica that closes before that is refused as `err 15 line`.
 
 Examples:
 
@@ -325,7 +326,7 @@ Examples:
   sheet follow --from 7001 --after 250000 >> all.lines
   sheet follow --from 7001 --every 1000 --explain
 
-The first keeps a replica as a file, the second hands each change of one replica
+The first writes a replica to a file, the second sends each change of one replica
 to another as it comes, the third goes on after the changes that a file has, and the
 last is one for earlier versions. A line is such as
 
@@ -333,13 +334,13 @@ last is one for earlier versions. A line is such as
 
 /// What stands below the options of `sheet talk --help`.
 pub const TALK_HELP: &str = "\
-The server listens on this machine, 127.0.0.1. Each line of standard input is asked
+The server listens on this machine, 127.0.0.1. Each line of standard input is sent
 there, and its reply is written on standard output, whole, before the next line is
-read: what `run` does with a sheet of its own, on the sheet that all sessions of the
-server share. A refused line has its reply too, and the session goes on. It ends with
-the input; and early, with a word on standard error, where the server has no seat
-(`err 21 seat`), closes amid it or gives a reply that isn't due (`err 15 line`), or
-where the connection fails (`err 20 device`).
+read. So `talk` does what `run` does, with the sheet that all sessions of the server
+share. A refused line has its reply too, and the session goes on. It ends with the
+input. It ends early, with a word on standard error, if the server has no seat
+(`err 21 seat`), if it closes before the end or sends a reply that isn't due
+(`err 15 line`), or if the connection fails (`err 20 device`).
 
 Examples:
 
@@ -359,25 +360,25 @@ At a terminal, as in the second one, type a line and read its reply; Ctrl-D ends
 /// What stands below the options of `sheet squash --help`.
 pub const SQUASH_HELP: &str = "\
 Each line of standard input is the line of a delta, with or without `push ` before
-it. What they say together is written as lines that push it: cell after cell, as
-many in a line as it has room for. A sheet that takes in the one or the other
-shows the same. Nothing is written where a line is none of a delta: standard error
-has `err 14 delta` and the line's number. A first line `replica 1`, as that of a kept
-file, stays.
+it. What they say together is written as change lines, cell after cell, as many cells
+in a line as it has room for. A sheet that takes in the old lines or the new ones
+shows the same. If a line isn't a delta's, nothing is written, and standard error
+gets `err 14 delta` and the line's number. A first line `replica 1`, as a kept file
+has, stays.
 
-With `--keep` the lines are those of a kept file. It is replaced by what is written
-then, or stays as it is, whenever the program ends. A file that another program keeps
-is refused. Standard error tells how many changes became how many:
+With `--keep` the lines are those of a kept file, and the new lines replace it. The
+file has the old lines or the new ones, whenever the program ends. A file that another
+program keeps is refused. Standard error gets the number of changes before and after:
 `squashed plan.lines, 306 changes to 2`.
 
 With --until or --without the lines become those of a sheet from before some changes.
---until counts lines that push; the lines after them are left out, and have to be in
+--until counts change lines; the lines after them are left out, and have to be in
 order all the same. --without leaves out of each line what that replica stamped: its
 assignments, its counts and what it chose. What a line doesn't have can't come back:
 a squashed line, or one that `pull` made of several changes, has the last assignment
-alone, and no set tells who took an option out. Standard error tells what is lost:
-`squash: left out 12 of 40 lines`, `squash: left out parts of 3 cells`. Neither goes
-with --keep, as the file would lose them.
+alone, and no set says which replica took an option out. Standard error says what is
+lost: `squash: left out 12 of 40 lines`, `squash: left out parts of 3 cells`. Neither
+goes with --keep, as the file would lose them.
 
 Examples:
 
