@@ -10,6 +10,7 @@ COMMENT = re.compile(r"\s*//[/!]?\s?(.*)")
 # How a comment is written in each kind of source. In C and in scripts of the page, also in several lines.
 FORMS = {".rt": COMMENT, ".js": re.compile(r"\s*(?://|/?\*+/?)\s?(.*?)(?:\*/)?"), ".py": re.compile(r"\s*#!?\s?(.*)")}
 FORMS[".c"] = FORMS[".js"]
+FORMS[".antt"] = re.compile(r"\s*--\s?(.*)")
 # Where sources are.
 FOLDERS = ("bench", "page", "release", "tests")
 
@@ -37,6 +38,7 @@ def sources():
     """All sources whose comments are looked at."""
     others = (file for part in FOLDERS for file in (TOP / part).rglob("*"))
     return sorted([*TOP.glob("crates/*/src/**/*.rt"),
+                   *(file for part in ("specs", "proofs") for file in TOP.glob(f"crates/*/{part}/**/*.antt")),
                    *(file for file in others if file.suffix in FORMS and "out" not in file.parts)])
 
 
@@ -66,10 +68,12 @@ class Planted(unittest.TestCase):
     def test_in_each_kind_of_source(self):
         for kind, text in (
             (".js", "/** It is told\n * so. */"), (".js", "  // none but for two\nlet a;"),
-            (".c", "/* It is told so. */"), (".py", "# It is told so."), (".py", 'def f():\n    """It is told so."""'),
+            (".c", "/* It is told so. */"), (".antt", "-- It is told so."), (".py", "# It is told so."),
+            (".py", 'def f():\n    """It is told so."""'),
             (".py", 'class A:\n    """Short.\n\n    None but\n    for two."""'),
         ):
             self.assertEqual(len(faults(text, kind)), 1, text)
         for kind, text in ((".js", "const told = 'it is told';"), (".c", 'say("it is told");'),
-                           (".py", 'A = """it is told"""'), (".py", "a = 'it is told'\n")):
+                           (".antt", "it-is : is told"), (".py", 'A = """it is told"""'),
+                           (".py", "a = 'it is told'\n")):
             self.assertEqual(faults(text, kind), [], text)

@@ -28,8 +28,8 @@ IsDue t touched v u c = In touched c ⊎ Changed v u (refers_to t) c
 abbrev pub IsWork : State → List ℕ → Assignment → Assignment → ℕ → Type 0
 IsWork t touched v u c = InFrame t touched c × IsDue t touched v u c
 
--- a change from the state s, where the cells showed v, to the state t, where they show w: how many formulas were
--- evaluated, how many formula cells of the region are cyclic, and how many levels the other ones have
+-- a change from the state s, where the cells showed v, to the state t, where they show w. It tells how many formulas
+-- were evaluated, how many formula cells of the region are cyclic, and how many levels the other ones have
 pub record IsRecalculated (s t : State) (v w : Assignment) (evaluated cyclic levels : ℕ) : Type 0 where
   pub touched : List ℕ
   pub exact : (c : ℕ) → In touched c ↔ ¬ (s c ≡ t c)

@@ -13,8 +13,8 @@ use Rattle.ps_eval.specs.Number.{on_one, on_both, chosen}
 use Rattle.ps_eval.specs.Items.{Assignment, single, cell_items, range_items, sum_of, min_of, max_of, count_of}
 use Rattle.ps_eval.specs.Items.{all_of, any_of}
 
--- the result of a call, by the items or by the values of its arguments; a count of arguments that the grammar forbids
--- gives a fault, except that SUM, MIN, MAX, COUNT, AND and OR take any count
+-- the result of a call, by the items or by the values of its arguments. SUM, MIN, MAX, COUNT, AND and OR take any count
+-- of arguments. For the others a count that the grammar forbids gives a fault
 abbrev pub called : Function → List Number → List Number → Number
 called Sum items values = sum_of items
 called Min items values = min_of items

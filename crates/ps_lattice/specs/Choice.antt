@@ -1,6 +1,6 @@
--- A set of options from which only what was observed is removed (an observed-remove set): a set of added pairs,
--- each of an option and a fresh tag (a replica and a sequence number of its own), and a set of removed pairs, part
--- of the added ones. An option is in while an added pair of it isn't removed. A join of two choices unites both sets.
+-- A set of options from which only what was observed is removed (an observed-remove set). It has a set of added pairs,
+-- each of an option and a fresh tag: a replica and a sequence number of its own. The removed pairs are a part of these.
+-- An option is in while an added pair of it isn't removed. A join of two choices unites both sets.
 use Rattle.std.specs.Prelude.{ℕ, max, Bool, true, false, not, ◌&&◌, ◌||◌, ◌==◌, nat_le, nat_lt, List, [], ◌∷◌}
 use Rattle.std.specs.Prelude.{map as each, filter, unwrap_or}
 use Rattle.std.specs.List.{list_any, list_all}

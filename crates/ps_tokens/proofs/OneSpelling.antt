@@ -70,8 +70,8 @@ token_spelled _ _ (a_token w {s = r} {x} {ts} token sp) apart b s h e = record {
   apart = apart.1;
 }
 
--- the tokens found and the text that is left, against the whole text: what the rest spells makes up what the
--- whole spells, and each list of tokens that are apart begins with those found and goes on in the rest
+-- the tokens found and the text that is left, against the whole text. What the rest spells makes up what the whole
+-- spells. Each list of tokens that are apart begins with those found and goes on in the rest
 pub record IsLeft (text : List ℕ) (found : List Token) (rest : List ℕ) : Type 0 where
   pub sound : (ts : List Token) → Spells rest ts → Spells text (found ++ ts)
   pub only : (ts : List Token) → Spells text ts → AreApart ts

@@ -12,8 +12,8 @@ use Rattle.ps_cells.specs.Inside.Kept.{IsTidy}
 use Rattle.ps_cells.specs.Inside.Screens.{before_of}
 use Rattle.ps_cells.specs.declared.tables.Tables.{Tables}
 
--- PENDING: before the change the touched cells had the states of `olds`, all cells had the state s, and their values
--- were settled; the cells hold and show what they do after the change, and the index has old and new formulas
+-- PENDING: a change under way. Before it the touched cells had the states of `olds`, all cells had the state s, and
+-- their values were settled. Now the cells hold and show what they do after it, and the index has old and new formulas
 pub record IsPending (s : State) (x : Tables) (olds : Entries) : Type 0 where
   pub was_in_grid : IsInGrid s
   pub was_settled : IsSettled s (before_of x.shown)
