@@ -170,12 +170,11 @@ impl Cells {
     }
 
     /// Lists the cells that [`Cells::list_changed`] listed last, each with the value that it shows now.
-    /// [`Cells::changes`] returns that list.
+    /// [`Cells::changes`] returns the list.
     ///
-    /// It serves callers that need the values as a slice, as a prepared change of a sheet. Others read
-    /// [`Cells::shown`].
+    /// Only a caller that needs cells and values in one slice calls it. Others look up values in [`Cells::shown`].
     ///
-    /// Cost: linear in these cells.
+    /// Cost: linear in the listed cells.
     pub fn list_values(&mut self)
         ensures values { self.new.changes ≡ map (λ c. (c, shown_now self.old c)) self.old.changed }
         ensures kept { (self.new.grid ≡ self.old.grid) × (self.new.shown ≡ self.old.shown)
@@ -192,7 +191,7 @@ impl Cells {
         self.tables.shown.changed()
     }
 
-    /// Returns the cells whose values [`Cells::list_values`] listed last, with these values.
+    /// Returns the list that [`Cells::list_values`] made last: cells, each with its value at that call.
     pub fn changes(&self) -> &[(Cell, Value)]
         ensures changes { result.now ≡ self.now.changes }
     {

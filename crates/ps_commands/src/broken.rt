@@ -16,10 +16,10 @@ const SILENT: i32 = -2;
 
 const UNKNOWN: i32 = -3;
 
-/// The first connection of a command that ended or failed, shared by the connections and whoever reports it. A
-/// [`Failed`](ps_device::Failed) names none.
+/// A command's first connection that ended or failed, if one did. All connections of the command share it and note
+/// their end there, since the error [`Failed`](ps_device::Failed) names no connection.
 ///
-/// No clause says what it holds.
+/// No clause says which connection it has.
 #[derive(Drop)]
 pub struct BrokenConnection {
     port: AtomicU16,
@@ -27,7 +27,7 @@ pub struct BrokenConnection {
 }
 
 impl BrokenConnection {
-    /// Creates the value of a command that has no connection yet.
+    /// Creates a `BrokenConnection` for a command that starts: no connection has ended or failed yet.
     pub fn new() -> BrokenConnection {
         BrokenConnection {
             port: AtomicU16::new(0),
@@ -55,7 +55,7 @@ impl BrokenConnection {
         }
     }
 
-    /// Forgets the connection that ended, once that was reported.
+    /// Forgets the connection that ended, once its end was reported.
     pub(crate) fn forget(&self) {
         self.code.store(NONE, Ordering::SeqCst);
     }
@@ -76,7 +76,8 @@ impl BrokenConnection {
     }
 }
 
-/// Returns the connection whose end explains what ended a command, if one does.
+/// Returns the broken connection that explains the fault, if one does. Only the refusals `Device` and `Line` can have
+/// this cause.
 pub fn connection_fault(
     fault: &ProgramFault,
     broken: &BrokenConnection,

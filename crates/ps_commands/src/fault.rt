@@ -40,7 +40,7 @@ pub enum ProgramFault {
     /// A call was refused.
     #[error("{0}")]
     Refused(Refusal),
-    /// `csv`'s own reader failed over a table, with this error. The text is that of `Csv`.
+    /// The reader of the crate `csv` failed on a table, with this error. The text is that of `Csv`.
     #[error("{}", Refusal::Csv)]
     ReaderFailed(csv::Error),
     /// A peer refused a request. The text is its reply, with each control character spelled out.
@@ -52,10 +52,10 @@ pub enum ProgramFault {
     /// A line of the input is no delta's. The text is that of `Delta`, and below it the line's number, from 1 on.
     #[error("{}\nline {}", Refusal::Delta, .0)]
     DeltaRefused(u64),
-    /// A port of this machine can't be had. The text is that of `Device`.
+    /// A port of this machine can't be used. The text is that of `Device`.
     #[error("{}", Refusal::Device)]
     PortFailed(PortFault),
-    /// A file isn't taken to keep a sheet in.
+    /// A file can't store the sheet, or no longer can. The text is that of [`FileNotTaken`].
     #[error("{0}")]
     KeptFailed(FileNotTaken),
 }
@@ -126,7 +126,7 @@ impl From<RunFault> for ProgramFault {
     }
 }
 
-/// The fault that an import ends the program with.
+/// Returns the fault that ends the program after an import has failed with `fault`.
 pub fn fault_of_import(fault: ImportFault) -> ProgramFault
     ensures { result ≡ program_fault fault.reader_error fault.refusal }
 {
@@ -136,7 +136,7 @@ pub fn fault_of_import(fault: ImportFault) -> ProgramFault
     }
 }
 
-/// The exit status: 1 where a device failed, or a file is kept by another program, else 3.
+/// Returns the exit status: 1 if a device failed, if a port can't be used, or if [`FileNotTaken::status`] is 1; else 3.
 pub fn status_of(fault: &ProgramFault) -> u8
     ensures { result ≡ exit_status fault.now }
 {

@@ -1,4 +1,4 @@
-//! The file that a sheet is kept in, and why it isn't taken.
+//! Opens the kept file of a sheet, and says why a file is refused or failed later.
 ghost use Rattle.std.specs.Prelude.{◌≡◌, ◌⊎◌, ℕ, List, IfErr, IfOk};
 ghost use Rattle.ps_kept.specs.Starts.{Reads};
 ghost use Rattle.ps_keep.specs.Digests.{IsClean};
@@ -27,49 +27,47 @@ use std::rt::{Files, HostRuntime};
 use std::sync::ledger::Ledger;
 use std::thread::Threads;
 
-/// The path of a kept file, as it was given, the system that it is on, and the reason for which its calls failed, if
-/// they did.
+/// How to find a kept file, and why a call on it failed, if one did.
 #[derive(Clone, Copy)]
 pub struct KeptName<'a> {
-    /// The system.
+    /// The system that the file is on.
     pub system: HostRuntime,
-    /// The path.
+    /// The path of the file, as it was given.
     pub path: &'a str,
-    /// The reason.
+    /// Why the first call that failed did so.
     pub reason: &'a FailureReason,
 }
 
-/// Why a file isn't taken to keep a sheet in, or why it keeps one no longer.
+/// Why a file is refused for a sheet, or why a kept file failed later.
 #[derive(Clone, Copy, Debug, PartialEq, Eq)]
 pub enum KeptTrouble {
-    /// The line of this number, 1 or more, is none that may stand there.
+    /// The line with this number, 1 or more, may not stand there.
     Line(u64),
-    /// The digest line of this number, 1 or more, isn't that of the lines before it.
+    /// The digest line with this number, 1 or more, doesn't match the lines before it.
     Damaged(u64),
-    /// It is the sheet of this replica.
+    /// The file has the sheet of this other replica.
     Replica(u8),
-    /// Another program keeps it.
+    /// Another program has the file.
     Busy,
-    /// It can't be opened, read or written.
+    /// The file can't be opened, read or written.
     Unusable(FileCause),
-    /// While it kept a sheet it couldn't be written, or it was removed, moved, replaced or cut. Without a reason memory
-    /// lacked.
+    /// The file failed after it was opened: it couldn't be written, or was removed, moved, replaced or cut. `None` when
+    /// out of memory for its lines.
     Lost(Option<FileCause>),
 }
 
-/// A file that is refused for a sheet, or keeps it no longer, and why. Its text is two lines, without the last line
-/// feed: the refusal, and the trouble of the file.
+/// A file that is refused for a sheet or failed later, and why. Its text is two lines, without the last line feed: the
+/// refusal, and what is wrong with the file.
 #[derive(Debug, Drop)]
 pub struct FileNotTaken {
     /// The path of the file, as it was given.
     pub path: String,
-    /// What is wrong with it.
+    /// What is wrong with the file.
     pub trouble: KeptTrouble,
 }
 
 impl FileNotTaken {
-    /// Returns the exit status: 1 if another program keeps the file, if it can't be used, or if it keeps the sheet no
-    /// longer; else 3.
+    /// Returns the exit status: 1 if another program has the file, if it can't be used, or if it failed later; else 3.
     pub fn status(&self) -> u8
         ensures { result ≡ kept_status self.now.trouble }
     {
@@ -126,7 +124,7 @@ impl fmt::Display for FileNotTaken {
     }
 }
 
-/// The fault of a file that isn't taken; out of memory another one.
+/// Returns the fault that names a file and its trouble, or `Refused(Memory)` when out of memory.
 pub(crate) fn not_taken(alloc: Global, path: &str, trouble: KeptTrouble) -> ProgramFault
     ensures { TellsTrouble trouble result }
 {
@@ -136,7 +134,10 @@ pub(crate) fn not_taken(alloc: Global, path: &str, trouble: KeptTrouble) -> Prog
     }
 }
 
-/// Returns the fault of a file that keeps a sheet no longer. Out of memory it is that of the device alone.
+/// Returns the fault for a kept file that failed after it was opened. It names the file's path and the reason in
+/// `name`.
+///
+/// When out of memory for the path, it is `Refused(Device)`, which names no file.
 ///
 /// Cost: linear in the path.
 pub fn lost_file(alloc: Global, name: KeptName<'_>) -> ProgramFault
@@ -149,7 +150,7 @@ pub fn lost_file(alloc: Global, name: KeptName<'_>) -> ProgramFault
     }
 }
 
-/// The fault of a file whose device failed, with the reason if there is one; any other fault as it is.
+/// Returns `fault`, but replaces `Refused(Device)` by the fault that names the file and the reason, if `name` has one.
 pub(crate) fn with_reason(alloc: Global, name: KeptName<'_>, fault: ProgramFault) -> ProgramFault
     ensures { (result ≡ fault) ⊎ IsUnusable result }
 {
@@ -164,9 +165,13 @@ pub(crate) fn with_reason(alloc: Global, name: KeptName<'_>, fault: ProgramFault
 /// A kept file as it was found: its lines without the digest lines, and their numbers in the file.
 pub(crate) type OpenFile = (DigestedFile<FoundFile>, LineNumbers);
 
-/// Opens the file of this path, or makes it, reads it, and checks its digest lines. A file that another program keeps
-/// is a fault of its own. So is one that is no regular file, or can't be opened for reading and writing, and so is a
-/// digest line that isn't that of the lines before it. Refused as `Memory`.
+/// Opens or creates the file of `name`, reads it, and checks its digest lines.
+///
+/// # Errors
+///
+/// - [`ProgramFault::KeptFailed`] if another program has the file, or a digest line doesn't match the lines before it.
+/// - [`ProgramFault::KeptFailed`], too, if it is no regular file, or can't be opened for reading and writing.
+/// - `Memory`.
 ///
 /// Cost: linear in the file, and twice its memory.
 pub(crate) fn open_file(alloc: Global, name: KeptName<'_>) -> Result<OpenFile, ProgramFault>
@@ -280,7 +285,7 @@ pub fn keep_sheet<R: Threads + Sync, F: Found + Drop, L: Ledger>(
 /// - [`ProgramFault::KeptFailed`] if another program has the file, a line may not stand there, or the file is another
 ///   replica's.
 /// - [`ProgramFault::KeptFailed`], too, if it is no regular file, or can't be opened for reading and writing, and if a
-///   digest line isn't that of the lines before it.
+///   digest line doesn't match the lines before it.
 /// - `Device` if the device fails, and the system gives no reason.
 /// - `Memory`.
 ///

@@ -21,7 +21,8 @@ pub fn history_is_a_set()
     ensures { HistoryIsASet }
 {}
 
-/// States that replacing groups of deltas by one delta each, their join, leaves the joined state the same.
+/// States that replacing each group of consecutive deltas by one delta, the group's join, leaves the joined state of a
+/// history the same.
 pub fn groups_join()
     ensures { GroupsJoin }
 {}
@@ -31,7 +32,8 @@ pub fn covered_changes_nothing()
     ensures { CoveredChangesNothing }
 {}
 
-/// States that the new part of a delta is part of the delta, repeats nothing that the state has, and is unique.
+/// States that a delta has at most one news: the least delta that does to the state what the whole delta does. The news
+/// is part of the delta, and repeats nothing that the state has.
 pub fn news_is_least()
     ensures { NewsIsLeast }
 {}

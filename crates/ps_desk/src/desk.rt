@@ -230,7 +230,7 @@ impl<L: DeskName, W: Wait + Drop> Desk<L, W> {
         made
     }
 
-    /// Shows all that the pass has seen to readers, and returns the token for it.
+    /// Shows readers all that the pass has seen, and returns the token for all that.
     ///
     /// Only a change made at a [`crate::Seat`] with a keeper may wait to be shown: see [`Desk::edit`]. If the pass has
     /// seen a change that may still wait, this call shows all waiting changes. It may then wait for other calls, and
@@ -278,11 +278,12 @@ impl<L: DeskName, W: Wait + Drop> Desk<L, W> {
         state.version()
     }
 
-    /// Returns the number of changes in the history, once there are more than `seen`, or after `patience`, or once the
-    /// alarm is raised. The caller needs no session slot, and no pass sees more because of it.
+    /// Waits until the history has more changes than `seen`, or the alarm is raised, for at most `patience`. Returns
+    /// the number of changes.
     ///
-    /// It holds no lock while it waits, and then shows the changes that wait to be shown. If the desk is kept in a
-    /// file, the counted changes needn't be durable yet.
+    /// The caller needs no session slot, since the call doesn't change what any pass has seen. It holds no lock while
+    /// it waits. After the wait it shows readers all waiting changes. If the desk has a kept file, the counted changes
+    /// needn't be durable yet.
     ///
     /// Cost: the time that it waits.
     pub fn news<V: Wait + Clock>(
@@ -401,8 +402,8 @@ impl<L: DeskName, W: Wait + Drop> Desk<L, W> {
         state.deltas_after(alloc, from, at_most)
     }
 
-    /// Returns the deltas of the history after the first `from`, in order, to a caller without a session slot. No pass
-    /// sees more because of it. The position moves to the end of the published list, even if the call fails.
+    /// Returns the deltas of the history after the first `from`, in order, to a caller without a session slot. The call
+    /// doesn't change what any pass has seen. It moves the position to the end of the published list, even if it fails.
     ///
     /// Refused with `Version` if the history is shorter than `from`. If there are deltas to return, it may also fail
     /// when out of memory. It may wait for other calls.
@@ -471,11 +472,11 @@ impl<L: DeskName, W: Wait + Drop> Desk<L, W> {
         state.entry(alloc, cell)
     }
 
-    /// Returns the entries of a rectangle's cells, as the text of a table. The pass has then seen the whole published
-    /// list.
+    /// Returns the entries of a rectangle's cells, as the text of a CSV table with a line for each row. The pass has
+    /// then seen the whole published list.
     ///
-    /// Refused only when out of memory. It may wait for other calls. Other calls wait while the contents are copied,
-    /// and not while the text is written.
+    /// Refused only when out of memory. It may wait for other calls, and they wait while it copies the contents. No
+    /// call waits while it writes the text.
     ///
     /// Cost: the cells of the rectangle and the bytes of the text.
     pub fn entries<V: Wait>(

@@ -39,8 +39,8 @@
 //! reply mentions is visible to everyone.
 //!
 //! Code without a session slot, such as a journal, follows the shown list from position to position. [`Desk::later`]
-//! returns the deltas after a number to such code, and no pass sees more because of it. [`Desk::close_at`] moves such a
-//! position to the end of the closed list.
+//! returns the deltas after a number to such code, and doesn't change what any pass has seen. [`Desk::close_at`] moves
+//! such a position to the end of the closed list.
 //!
 //! A session may wait for more changes ([`Seat`]'s `wait`), while its [`Presence`] says whether its peer still waits.
 //! Code without a slot waits with [`Desk::news`]. Both sleep without the lock. A shown change wakes them, or an

@@ -146,8 +146,9 @@ impl<L: DeskName> Pass<L> {
         Some(version)
     }
 
-    /// Returns the text of a table with what the cells of a rectangle show now, all at one version. A change that is
-    /// published meanwhile waits while the values are copied, and not while the text is written.
+    /// Returns what the cells of a rectangle show now, all at one version, as the text of a CSV table with a line for
+    /// each row. A change that is published meanwhile waits while the values are copied, and not while the text is
+    /// written.
     ///
     /// Refused if the desk is gone (`Seat`), and when out of memory.
     ///

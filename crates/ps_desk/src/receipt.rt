@@ -1,4 +1,4 @@
-//! The receipt of a change, and whether it encloses the change's delta.
+//! What a desk returns for a change: a receipt, which encloses the change's delta if the caller wants it back.
 
 ghost use Rattle.std.specs.Prelude.{◌≡◌};
 ghost use Rattle.ps_desk.specs.Receipts.{merged_of};
@@ -9,14 +9,14 @@ use ps_session::Merged;
 use std::alloc::Global;
 use std::sync::Wait;
 
-/// What a receipt encloses of a change's delta: the delta itself, or nothing if the caller doesn't want it back.
+/// What a receipt can enclose: the change's [`Delta`], or nothing ([`Unenclosed`]). The caller picks the type.
 pub trait Enclosure: Sized {
     ghost use Rattle.ps_delta.specs.Deltas.{Entries};
 
-    /// What is known of an enclosed value and the change's delta.
+    /// What holds between an enclosed value and the change's delta.
     ghost tells: { Self → Entries → Type 0 };
 
-    /// Returns what a receipt encloses of this delta.
+    /// Returns the value to enclose for a change by this delta.
     fn of<V: Wait>(wait: &V, alloc: Global, delta: &Delta) -> Self
         ensures { tells result delta.now };
 }
@@ -32,7 +32,7 @@ impl Enclosure for Delta {
     }
 }
 
-/// Encloses nothing of a change's delta, and takes no time.
+/// Stands for a delta that the caller doesn't want back. It costs no time.
 #[derive(Clone, Copy, Debug)]
 pub struct Unenclosed;
 
@@ -47,13 +47,15 @@ impl Enclosure for Unenclosed {
     }
 }
 
-/// The result of a change: its number in the history, and what is enclosed of its delta.
+/// The result of a change: its number in the history, and its delta if the caller wants that back.
+///
+/// `E` is [`Delta`] if so, and else [`Unenclosed`].
 #[derive(Drop)]
 pub struct Receipt<E> {
     /// The number of the delta in the history, from 1, if `fresh`. Otherwise the length of the history, to which the
     /// delta added nothing new.
     pub number: u64,
-    /// What is enclosed of the delta.
+    /// The change's delta, or [`Unenclosed`]. Of a merge it is the news, or the whole delta if there is no news.
     pub enclosed: E,
     /// Whether this change appended its delta to the history.
     pub fresh: bool,

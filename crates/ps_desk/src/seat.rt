@@ -70,7 +70,7 @@ impl<'a, L: DeskName, W: Wait + Drop, V: Wait> Seat<'a, L, W, V> {
         self.pass.position()
     }
 
-    /// Shows all that the session has seen to readers, its own changes included, and returns the token for it.
+    /// Shows readers all that the session has seen, its own changes included, and returns the token for all that.
     ///
     /// Cost: that of [`Desk::show`].
     pub fn show(&mut self) -> ShownPosition<L>
@@ -103,8 +103,10 @@ impl<'a, L: DeskName, W: Wait + Drop, V: Wait> Seat<'a, L, W, V> {
         let _ = self.pass.note_shown(self.wait, shown);
     }
 
-    /// Ends the session, and returns its pass. It first shows all that the session has seen to readers, its own changes
-    /// included, and returns the token for that.
+    /// Ends the session, and returns its pass.
+    ///
+    /// It first shows readers all that the session has seen, its own changes included. The second result is the token
+    /// for all that.
     ///
     /// Cost: that of [`Desk::show`].
     pub fn leave(mut self) -> (Pass<L>, ShownPosition<L>)

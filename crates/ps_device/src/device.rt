@@ -9,8 +9,9 @@ pub struct Failed;
 
 /// Where bytes come from: standard input, a file, a connection.
 ///
-/// A call fails if it returns an error. If it returns 0 for a piece that isn't empty, the input has ended. Contracts
-/// see the bytes still to come, how many calls have failed, and a bound on how many more calls return bytes.
+/// A call of [`Source::take`] fails if it returns an error. If it returns 0 though its `piece` isn't empty, the input
+/// has ended. Contracts see the bytes still to come, how many calls have failed, and a bound on how many more calls
+/// return bytes.
 pub trait Source {
     /// The bytes still to come; `None` if the source doesn't show them to contracts.
     ghost remaining: { Self → Option (List ℕ) };
@@ -21,7 +22,7 @@ pub trait Source {
     /// A bound on how many more calls return bytes. It never rises, so a loop of reads ends.
     ghost left: { Self → ℕ };
 
-    /// Reads the next bytes into the front of the piece, and returns how many.
+    /// Reads the next bytes into the front of `piece`, and returns how many.
     ///
     /// Cost: linear in the bytes read, besides the time of the device.
     fn take(&mut self, piece: &mut [u8]) -> Result<usize, Failed>
@@ -34,8 +35,8 @@ pub trait Source {
 
 /// Where bytes go: memory, standard output, a file, a connection.
 ///
-/// A call fails if it returns an error, or if it takes no byte of a piece that isn't empty. Contracts see the bytes put
-/// so far, which of them still wait for a flush, and how many calls have failed.
+/// A call fails if it returns an error. A call of [`Sink::put`] also fails if it takes no byte though its `piece` isn't
+/// empty. Contracts see the bytes put so far, which of them still wait for a flush, and how many calls have failed.
 pub trait Sink {
     /// The bytes put so far, the waiting ones last; `None` if the sink doesn't show them to contracts.
     ghost contents: { Self → Option (List ℕ) };
@@ -49,7 +50,7 @@ pub trait Sink {
     /// That the sink never sends a byte before a flush: every byte put waits for one.
     ghost holds_back: { Type 0 };
 
-    /// Takes bytes from the front of the piece, and returns how many.
+    /// Takes bytes from the front of `piece`, and returns how many.
     ///
     /// Cost: linear in the bytes taken, besides the time of the device.
     fn put(&mut self, piece: &[u8]) -> Result<usize, Failed>

@@ -145,11 +145,11 @@ impl<L: Named, R: Wait + Drop> FaceWriter<L, R> {
     /// Publishes the patch that [`FaceWriter::append`] stored, and returns its delta. Shows it to readers at one step,
     /// with all posted patches that wait.
     ///
-    /// It waits until no reader reads a copy that it took before the last showing.
+    /// Readers that entered before the previous showing must leave first: this call waits for them.
     ///
     /// Nothing in the program calls it. It is part of the public interface, as [`FaceWriter::append`] is.
     ///
-    /// Cost: twice the changes of the patch; no memory.
+    /// Cost: that of [`FaceWriter::publish_patch`].
     pub fn publish(&mut self) -> Delta
         requires one { length self.old.pending ≡ 1 }
         ensures list { self.new ≡ record {
@@ -177,7 +177,7 @@ impl<L: Named, R: Wait + Drop> FaceWriter<L, R> {
     /// Adds the patch that comes next to the list, and shows it to readers at one step, with all posted patches that
     /// wait.
     ///
-    /// It waits until no reader reads a copy that it took before the last showing.
+    /// Readers that entered before the previous showing must leave first: this call waits for them.
     ///
     /// Cost: twice the changes of the patch and of those that wait, and a constant for each reader. No memory.
     #[inline(always)]
@@ -242,7 +242,7 @@ impl<L: Named, R: Wait + Drop> FaceWriter<L, R> {
 
     /// Shows readers all posted patches that wait, at one step, or does nothing if none waits.
     ///
-    /// It waits until no reader reads a copy that it took before the last showing.
+    /// Readers that entered before the previous showing must leave first: this call waits for them.
     ///
     /// Cost: twice the changes of the patches that wait, and a constant for each reader. Constant if none waits. No
     /// memory.

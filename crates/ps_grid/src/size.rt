@@ -10,16 +10,16 @@
 //!
 //! So `COLUMNS` can double, and nothing else changes here. From 10,000 rows on, `NAME_BYTES` has to grow.
 
-/// The number of columns: A to CZ.
+/// The number of columns, which are named A to CZ.
 pub const COLUMNS: usize = 104;
 
-/// The number of rows: 1 to 1,024.
+/// The number of rows, which are numbered from 1.
 pub const ROWS: usize = 1_024;
 
 /// The number of cells.
 pub const CELLS: usize = ROWS * COLUMNS;
 
-/// The number of letters that name columns: A to Z.
+/// The number of letters in names of columns, A to Z.
 pub const LETTERS: usize = 26;
 
 /// The most bytes of a cell's name: two letters and four digits.

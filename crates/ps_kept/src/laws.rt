@@ -3,7 +3,8 @@ ghost use Rattle.ps_kept.specs.Laws.{CrashesKeepDigested, CrashesKeepSheets, Fau
 ghost use Rattle.ps_kept.specs.Laws.{ReadFilesOpen};
 ghost use Rattle.ps_kept.specs.Laws.{SquashedFilesRead, StartsMayCrash, StaysNoted, ToldLinesHaveNoDigests};
 
-/// States that a journal with a beginning of a history has a beginning of each longer history, too.
+/// States that a journal whose lines are a beginning of a history still has a beginning of it once the history has
+/// grown.
 pub fn longer_histories_fit()
     ensures { StaysNoted }
 {}
@@ -14,8 +15,8 @@ pub fn crashes_keep_sheets()
     ensures { CrashesKeepSheets }
 {}
 
-/// States what [`crashes_keep_sheets`] states, of a file with digest lines, which are checksums. After a crash they are
-/// right, and the next start reads as much in the other lines. No line of a history has the form of a digest line.
+/// States what [`crashes_keep_sheets`] states, of a file with digest lines, which are checksums. A start reads the
+/// history from the other lines. After a crash all digest lines are right. No line of a history has the form of one.
 pub fn crashes_keep_digested_sheets()
     ensures lines { ToldLinesHaveNoDigests }
     ensures crash { CrashesKeepDigested }

@@ -1,4 +1,5 @@
 //! An observed-remove set of options: a removal takes away only those additions of an option that it has observed.
+//! Each addition is a pair (`Pair`) of the option and a tag.
 
 ghost use Rattle.std.specs.Prelude.{◌≡◌, ℕ, ◌+◌, ◌<◌, ◌≤◌, ◌↔◌, not, ◌&&◌, ◌||◌, ◌==◌, [], ◌∷◌, Contains, IsTrue};
 ghost use Rattle.std.specs.Prelude.{IfOk, IfErr, IsErrOf, IsBitSet, true, filter, length, map as each};
@@ -177,14 +178,14 @@ impl Choice {
         }
     }
 
-    /// Returns whether no option was ever chosen. A removed option counts as well, since its pairs stay.
+    /// Returns whether no option was ever chosen. It is false even if all options are removed, since their pairs stay.
     pub fn is_empty(&self) -> bool
         ensures { IsTrue result ↔ (self.now ≡ map.empty) }
     {
         self.parts().is_empty()
     }
 
-    /// Returns the added pairs, ascending, each with whether it is removed.
+    /// Returns all additions of options, removed or not, ascending: each as its pair, and whether it is removed.
     #[tactic(auto, using(crate::proofs::Views::items_are))]
     pub fn parts(&self) -> &[(Pair, bool)]
         ensures value { result.now ≡ map.entries self.now }

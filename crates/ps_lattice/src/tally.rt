@@ -340,7 +340,7 @@ fn are_in_range(parts: &[(u8, Count)]) -> bool
     parts.iter().all(|entry| is_count(entry))
 }
 
-/// Whether the replica and its counts are in range.
+/// Whether the replica and its counts are in range, and one of the two counts is at least 1.
 fn is_count(entry: &(u8, Count)) -> bool
     ensures { result ≡ is_count entry.now }
 {
@@ -373,9 +373,10 @@ impl Tally {
         })
     }
 
-    /// Returns what in the delta is new to this counter: each replica's totals that are greater than here, others as 0.
+    /// Returns what in the delta is new to this counter: of each replica, the counts that are greater in the delta.
     ///
-    /// Refused only when out of memory.
+    /// A count that isn't greater becomes 0. A replica without a greater count is left out. Refused only when out of
+    /// memory.
     ///
     /// Cost: one search in this counter for each replica of the delta.
     pub fn news(&self, alloc: Global, delta: &Tally) -> Result<Tally, Refusal>

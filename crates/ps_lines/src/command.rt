@@ -57,11 +57,13 @@ impl Command {
     /// - `choose <cell> <option>` and `unchoose <cell> <option>`: change a cell's set of options;
     /// - `rows <cell>:<cell>`: show a rectangle;
     /// - `entry <cell>` and `entries <cell>:<cell>`: return the entry of a cell, or those of a rectangle;
-    /// - `pull <from>` and `pull <from> <most>`: return deltas;
+    /// - `pull <from>`: return the next delta after the first `from` changes;
+    /// - `pull <from> <most>`: return at most `most` deltas after those changes, joined into one;
     /// - `push <delta>`: take in a delta; its text is all that follows the space;
     /// - `merge <delta>`: take in what is new of a delta;
-    /// - `replica`, `replica <number>` and `replica <digest>`: return the number of the own replica;
-    /// - `wait <number>`: return the version once there are more changes than this.
+    /// - `replica`, `replica <number>` and `replica <digest>`: return the number of the own replica. A second word
+    ///   makes no difference; lines of kept files have one;
+    /// - `wait <from>`: wait until there are more than `from` changes, and return the version.
     ///
     /// Exactly one space stands between two words; an entry may hold more. `decoder` decodes a delta. Only a delta, a
     /// formula and a text take memory. Whether an amount or an option is in range, and whether the cell has a counter
@@ -74,8 +76,9 @@ impl Command {
     /// - `Command`: an unknown first word, or a word too few or too many;
     /// - `Cell`: a word that names no cell, or corners without exactly one colon between them;
     /// - `Amount` or `OptionRange`: an amount or option that isn't a decimal number of at most 64 bits;
-    /// - `Version`: a version that isn't such a number, or a `most` that isn't 1 to 16;
-    /// - `Replica`: neither a number of 1 to [`REPLICAS`] nor a digest (16 hex digits in lower case);
+    /// - `Version`: a `from` that isn't a decimal number of at most 64 bits, or a `most` that isn't 1 to 16;
+    /// - `Replica`: a second word that is neither a number of 1 to [`REPLICAS`] nor a digest (16 hex digits in lower
+    ///   case);
     /// - a refusal of [`read_entry`], or `Delta` for a text that isn't a delta's;
     /// - `Memory`: out of memory.
     ///

@@ -57,7 +57,7 @@ impl<C: Clock> Read for Timed<'_, C> {
     }
 }
 
-/// Returns a reader of a connection that fails once `time` has passed; none if the clock fails.
+/// Returns a reader of a connection that fails once `time` has passed; `None` if the clock fails.
 fn until<'a, C: Clock>(
     clock: &'a C,
     stream: &'a TcpStream,
@@ -93,9 +93,10 @@ pub fn greet<C: Clock>(
     greeted
 }
 
-/// Reads the head of a request, and answers it.
+/// Reads the head of a request from `reader`, and writes the response to `writer`.
 ///
-/// Returns `Answered`, too, if reading or writing fails, or when out of memory.
+/// Returns `Live` or `News` if it opened a WebSocket, and else `Answered`. The latter includes failed reads and writes,
+/// and out of memory. [`greet`] calls it on a connection, and limits the time.
 ///
 /// Cost: linear in the bytes of the head and of the page, and the time that both sides take.
 pub fn answer_request<R: Read, W: Write>(
@@ -143,10 +144,10 @@ fn is_opened<W: Write>(alloc: Global, accept: &[u8; 28], writer: &mut W) -> bool
     write_response(accept, &[], &mut head).is_ok() && writer.write_all(head.as_slice()).is_ok()
 }
 
-/// Shuts down the output, and reads and drops the input to its end, for at most `time`. If a connection is closed with
-/// unread input, the system resets it, and the peer may lose the response.
+/// Shuts down the output, and reads and drops the input: to its end, for at most `time` and in at most 256 reads. If a
+/// connection is closed with unread input, the system resets it, and the peer may lose the response.
 ///
-/// Cost: up to 256 reads.
+/// Cost: the reads, and the time that they wait.
 pub fn drain<C: Clock>(clock: &C, stream: &TcpStream, time: Duration) {
     let _ = stream.shutdown(Shutdown::Write);
     let Some(mut reader) = until(clock, stream, time) else {

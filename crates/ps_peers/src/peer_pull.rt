@@ -134,8 +134,11 @@ fn ask_news<S: Source + Drop, K: Sink + Drop>(
 
 /// Reads the reply to a pull after `version`.
 ///
-/// Fails as `Line` if it isn't one: a delta has to lead up to a version greater than `version`, and an `end` has to
-/// name just `version`. Fails as `PeerRefused` if the peer replied `err`.
+/// # Errors
+///
+/// - `Line`: the reply is neither a delta that leads up to a version greater than `version`, nor `end` and `version`.
+/// - `PeerRefused`: the peer replied `err`.
+/// - `Memory`: out of memory for the text of that `err`.
 fn due_reply(alloc: Global, reply: &[u8], version: u64) -> Result<Due, SyncFault>
     ensures due { IfOk result (IsDue version reply.now) }
     ensures device { IfErr result (λ fault. fault ≢ Refused Refusal.Device) }
@@ -183,8 +186,14 @@ pub fn next_due<S: Source + Drop, K: Sink + Drop>(
     }
 }
 
-/// Checks the reply to a wait for more than `version` changes. It has to be the word `version` and a number that is at
-/// least `version`. Else it is refused as `Line`, or as `PeerRefused` if the peer replied `err`.
+/// Checks the reply to a wait for more than `version` changes. The reply has to be the word `version` and a number, at
+/// least `version`, since a wait may end without a change.
+///
+/// # Errors
+///
+/// - `Line`: the reply is anything else.
+/// - `PeerRefused`: the peer replied `err`.
+/// - `Memory`: out of memory for the text of that `err`.
 pub fn due_news(alloc: Global, reply: &[u8], version: u64) -> Result<(), SyncFault>
     ensures due { OnOk result (TellsNews version reply.now) }
     ensures device { IfErr result (λ fault. fault ≢ Refused Refusal.Device) }

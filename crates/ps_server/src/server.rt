@@ -27,7 +27,7 @@ use std::sync::Wait;
 use std::thread::Threads;
 use std::time::Clock;
 
-/// The result of a server that has ended.
+/// What a server returns once it has ended. `J` is the type of its journal, and `()` for a server without one.
 #[derive(Drop)]
 pub struct Closed<J = ()> {
     /// The sheet, as its sessions left it.

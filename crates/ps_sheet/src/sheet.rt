@@ -218,8 +218,9 @@ impl Sheet {
     ///
     /// Fails only when out of memory, and only if there is news. It then changes nothing.
     ///
-    /// Cost: for each count and pair of the delta, a search among those of its cell in the sheet. If there is news,
-    /// also that of joining it, and of the region as for [`Sheet::edit`].
+    /// Cost: for each replica in a counter of the delta, and each pair in a set (an option and the tag of its choice),
+    /// a search in the sheet's state of that cell. If there is news, also that of its join, and of the region as for
+    /// [`Sheet::edit`].
     pub fn merge<R: Threads + Sync, L: Ledger>(
         &mut self,
         rt: &R,
@@ -322,7 +323,7 @@ impl Sheet {
 
     /// Returns whether the state has everything in `delta` that is marked with the sheet's own replica.
     ///
-    /// If it hasn't, another sheet uses the same replica number, or this one lost changes of its own. It takes no
+    /// If it hasn't, another sheet uses the same replica number, or this one lost changes of its own. The call takes no
     /// memory.
     ///
     /// Cost: for each count in the delta, a pass over the counts that its cell has in the sheet. For each pair in the

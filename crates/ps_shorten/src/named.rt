@@ -40,13 +40,15 @@ struct NewFile {
     bytes: Vec<u8>,
 }
 
-/// A file of the operating system under its name. Its contracts repeat what its system calls returned: that the system
-/// does what it reports is trusted.
+/// A file of the operating system, under its name. It is trusted that the system does what its calls report: contracts
+/// only repeat their results.
 ///
-/// A `NamedFile` has the lock of the file that was found, and of the file that replaced it, until the `NamedFile` is
-/// dropped. The new file is locked before it gets the name, and the old one is still locked when it loses the name. So
-/// at each moment the file under the name is locked, and a start in between fails. A start may have opened the old file
-/// before, and may lock it once the `NamedFile` is dropped. This start finds another file under the name, and fails.
+/// A `NamedFile` has the lock of the old file, which it was made from, and of the new file that replaces it. It has
+/// both locks until it is dropped, and locks the new file before this gets the name. So the file under the name is
+/// locked all that time, and a start meanwhile fails: another program has the file.
+///
+/// A start that opened the old file before the replacement may lock it once the `NamedFile` is dropped. It fails as
+/// well, since the name then leads to another file.
 #[derive(Drop)]
 pub struct NamedFile<'a, R: Files<File = File>, F: Found + Drop> {
     rt: &'a R,

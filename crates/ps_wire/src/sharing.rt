@@ -20,15 +20,14 @@ use std::alloc::Global;
 /// A number of cells whose floors always fit one line.
 const FEW_CELLS: usize = 512;
 
-/// Returns how many of the first `most` deltas may share a line.
+/// Returns how many deltas, from the first on and `most` at most, may share a line.
 ///
-/// A join of more of them, up to `most`, has no line. A joined cell holds one of the contents that these deltas have
-/// for it. Even with the shortest one for each cell, such a join would be too long. The deltas aren't joined to find
-/// this.
+/// The number is an upper bound. A join of more of the first `most` deltas is too long for a line, and a join of that
+/// many may be, too. The bound is found without a join, from the shortest content that these deltas have for each cell.
 ///
 /// Fails only when out of memory.
 ///
-/// Cost: linear in the cells of the deltas and of the grid, and memory for one number a cell of the grid. With one
+/// Cost: linear in the cells of the deltas and of the grid, and memory for one number per cell of the grid. With one
 /// delta, or at most 512 cells in all, linear in the number of deltas, and no memory.
 pub fn may_share_line(alloc: Global, deltas: &[Delta], most: usize) -> Result<usize, Refusal>
     ensures most { IfOk result (λ n. n ≤ most) }

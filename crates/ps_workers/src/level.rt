@@ -122,8 +122,8 @@ impl<R: Threads + Sync, F: Formulas + Sync, K: Look + Sync, G: Gate> Task<'_, R,
 
 /// Returns the value of a cell's formula, where each cell shows what `look` says.
 ///
-/// It does what `eval_level` does for this one cell: it calls the gate once, as worker 0, and the meter counts one
-/// evaluation. It starts no thread and takes no memory.
+/// It does what `eval_level` does for a level of this one cell. It first calls `gate`, a hook (`Gate`), as worker 0.
+/// `meter` counts one evaluation. It starts no thread and takes no memory.
 ///
 /// Cost: the evaluation.
 #[inline(always)]
@@ -167,8 +167,9 @@ fn eval_as<F: Formulas, K: Look, G: Gate, L: Ledger>(
 ///
 /// `out[i]` gets the value of the formula of `cells[i]`, where each cell shows what `look` says. The meter counts one
 /// evaluation for each cell, whatever the number of workers. Each worker evaluates a consecutive part of `cells`, in
-/// order; the first one runs in the calling thread. If a thread can't be started, the thread that would have started it
-/// evaluates that part too. It takes no memory except for the threads.
+/// order, and calls `gate`, a hook (`Gate`), before each evaluation. The first worker runs in the calling thread. If a
+/// thread can't be started, the thread that would have started it evaluates that part too. It takes no memory except
+/// for the threads.
 ///
 /// Cost: the evaluations, divided evenly, and the start of a thread for each worker but the first.
 // It has eight parameters, since they have different owners.

@@ -6,8 +6,9 @@
 //! show. Each worker writes its values into a part of the output slice that no other worker has.
 //!
 //! Use the contract of `eval_level`. The output has the value of each cell's formula, and the meter counts one
-//! evaluation for each cell, whatever the number of workers and whatever the gate does. `eval_cell` does the same for a
-//! level of one cell, without an output slice and without threads.
+//! evaluation for each cell, whatever the number of workers and whatever the gate does. A `Gate` is a hook that each
+//! worker calls before each evaluation. `eval_cell` does the same as `eval_level` for a level of one cell, without an
+//! output slice and without threads.
 //!
 //! The five formulas `=1+1` to `=1+5` as one level give 2, 3, 4, 5, 6 with one worker and with sixteen. With two
 //! workers the first has three of the cells, and the second two.

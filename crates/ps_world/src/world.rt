@@ -21,7 +21,8 @@ use std::thread::Threads;
 
 /// Replicas of one sheet, and the deltas that these replicas made or untrusted peers sent.
 ///
-/// A contract sees it as its `WorldView`, and the world that a list of events makes as a `WorldState`.
+/// Contracts see a world as a `WorldView`: its deltas and its replicas. The definition of what events do knows no
+/// sheets, only a `WorldState`: the deltas, and which of them each replica took.
 #[derive(Drop)]
 pub struct World {
     /// in the order of their numbers
@@ -212,14 +213,14 @@ fn numbered(replicas: &[Replica], replica: u8) -> Option<&Replica>
 ///
 /// The contract states the main promise of a replicated sheet for any events:
 ///
-/// - The world has the deltas, and each replica took the numbers, that `played` gives. That definition knows no sheet.
+/// - The definition `played` says which deltas the world has, and which of them each replica took. It uses no sheet.
 /// - Each sheet shows the settled values of the join of the deltas that its replica took (`settled`).
 /// - Replicas that took the same deltas show the same (`same`).
 ///
 /// Nothing in the program calls it; tests do. It is part of the public interface because it states this promise.
 ///
 /// An event that names an unknown replica or an unknown delta changes nothing. Neither does an edit that the sheet
-/// refuses for another cause than memory.
+/// refuses, except when out of memory.
 ///
 /// # Errors
 ///
