@@ -24,9 +24,9 @@ use std::marker::Model;
 use std::sync::ledger::Ledger;
 use std::thread::Threads;
 
-/// What the cells of one replica hold and show. A change of them is staged, and then committed or cancelled.
+/// What the cells of one replica hold and show. A change of the cells is staged, and then committed or cancelled.
 ///
-/// A contract sees it as its `CellsView`.
+/// A contract sees a `Cells` as a `CellsView`.
 #[derive(Drop)]
 pub struct Cells {
     tables: Tables,
@@ -53,8 +53,10 @@ impl Model for Cells {
 }
 
 impl Cells {
-    /// Returns cells that hold and show nothing. Up to `workers` threads, 1 to `WORKERS`, evaluate formulas that don't
-    /// refer to one another, if a change has many of these.
+    /// Returns cells that hold and show nothing.
+    ///
+    /// `workers`, from 1 to `WORKERS`, is the greatest number of threads that evaluate formulas at once. A change uses
+    /// several threads only for many formulas that don't refer to one another.
     ///
     /// Fails only when out of memory.
     ///
@@ -76,14 +78,14 @@ impl Cells {
 
     /// Joins a delta to what the cells hold, recalculates what they show, and returns how much was recalculated.
     ///
-    /// The change stays staged until `commit` or `cancel`. `rt` starts the workers' threads, and each worker passes
-    /// `gate` before each of its evaluations. `meter` counts the evaluations.
+    /// The change stays staged until `commit` or `cancel`. `rt` starts the workers' threads, and each worker calls the
+    /// hook `gate` before each of its evaluations. `meter` counts the evaluations.
     ///
-    /// Fails only when out of memory, and then the cells hold and show what they did.
+    /// Fails only when out of memory, and then the cells hold and show what they did before the call.
     ///
-    /// Cost: that of the join and of the region (the cells whose values may change): its cells, the references to them,
-    /// and the evaluations, which workers share. If any cell shows `#CYCLE!`, also the references of the region's
-    /// formulas.
+    /// Cost: the join, and the work for the region (the cells whose values may change). That is the region's cells, the
+    /// references to them, and the evaluations, which workers share. If any cell shows `#CYCLE!`, the call also looks
+    /// up the references of the region's formulas.
     pub fn stage<R: Threads + Sync, G: Gate, L: Ledger>(
         &mut self,
         rt: &R,
@@ -114,7 +116,7 @@ impl Cells {
         Ok(work)
     }
 
-    /// Commits the staged change: it can't be cancelled any more. The call allocates no memory.
+    /// Commits the staged change, so that it can't be cancelled any more. The call allocates no memory.
     ///
     /// Cost: the cells that the delta changed, with the references of their old formulas, and the cells whose values
     /// were written.
@@ -129,7 +131,8 @@ impl Cells {
         self.is_staged = false;
     }
 
-    /// Cancels the staged change: the cells hold and show what they did before it. The call allocates no memory.
+    /// Cancels the staged change: the cells hold and show what they did before that change. The call allocates no
+    /// memory.
     ///
     /// Cost: the cells that the delta changed, with the references of their new formulas, and the cells whose values
     /// were written.
@@ -145,7 +148,8 @@ impl Cells {
         self.is_staged = false;
     }
 
-    /// Lists the cells that show another value than before the staged change. [`Cells::changed`] returns the list.
+    /// Lists the cells that show another value than before the staged change. [`Cells::changed`] returns the list. The
+    /// list is empty if no change is staged.
     ///
     /// Cost: the cells whose values the change wrote, and sorting the listed ones.
     pub fn list_changed(&mut self)
@@ -160,8 +164,8 @@ impl Cells {
     /// Returns the cell that shows another value than before the staged change, if the change wrote the value of no
     /// other cell.
     ///
-    /// `None` doesn't say that nothing changed: the change may have written several values. Then call
-    /// [`Cells::list_changed`].
+    /// `None` doesn't say that no value changed: the change may have written several values. So after `None`, call
+    /// [`Cells::list_changed`] to know.
     #[inline]
     pub fn one_changed(&self) -> Option<Cell>
         ensures changed { IfSome result (λ c. IsChanged (shown_before self.now) (shown_now self.now) (c ∷ [])) }
@@ -172,7 +176,8 @@ impl Cells {
     /// Lists the cells that [`Cells::list_changed`] listed last, each with the value that it shows now.
     /// [`Cells::changes`] returns the list.
     ///
-    /// Only a caller that needs cells and values in one slice calls it. Others look up values in [`Cells::shown`].
+    /// Only a caller that needs cells and values in one slice calls `list_values`. Any other caller looks up values in
+    /// [`Cells::shown`].
     ///
     /// Cost: linear in the listed cells.
     pub fn list_values(&mut self)
@@ -191,7 +196,7 @@ impl Cells {
         self.tables.shown.changed()
     }
 
-    /// Returns the list that [`Cells::list_values`] made last: cells, each with its value at that call.
+    /// Returns the list that [`Cells::list_values`] made last: cells, each with the value that it showed at that call.
     pub fn changes(&self) -> &[(Cell, Value)]
         ensures changes { result.now ≡ self.now.changes }
     {
@@ -212,7 +217,7 @@ impl Cells {
         self.tables.shown.shown()
     }
 
-    /// Returns whether a change is staged.
+    /// Returns whether a change is staged, and so neither committed nor cancelled yet.
     pub fn is_staged(&self) -> bool
         ensures staged { result ≡ is_some self.now.staged }
     {

@@ -16,7 +16,7 @@ use ps_shown::Kept;
 use ps_value::Fault;
 use std::alloc::Global;
 
-/// Returns the content of a cell's register; `None` if nothing was assigned to the cell.
+/// Returns the content of a cell's register; `None` if no content was ever assigned to the cell.
 pub fn content(state: &CellState) -> Option<&Content>
     ensures { option_copied result ≡ option_map (λ a. a.content) state.now.register }
 {

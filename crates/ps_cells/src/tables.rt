@@ -56,14 +56,14 @@ pub(crate) struct Tables {
     pub(crate) workers: usize,
 }
 
-/// How much a recalculation did.
+/// How much work a recalculation did.
 #[derive(Drop)]
 pub struct Work {
     /// how many formulas were evaluated
     pub evaluated: u64,
-    /// how many formula cells of the region (the cells that the change reaches) are cyclic
+    /// how many formula cells of the region (the cells that the change reaches) are cyclic, as they reach a cycle
     pub cyclic: u64,
-    /// how many levels the other formula cells of the region have; those of one level don't refer to one another
+    /// how many levels the other formula cells of the region have; the cells of a level don't refer to one another
     pub levels: u64,
 }
 

@@ -16,7 +16,7 @@ fn is_send_and_sync<T: Send + Sync>()
     ensures sync { IsSync T.row }
 {}
 
-/// States that a `Cells` may go to another thread (`IsSend`).
+/// States that a `Cells` value may be sent to another thread (`IsSend`).
 pub fn cells_are_send()
     ensures { IsSend cells.the_row }
 {

@@ -16,10 +16,10 @@ const SILENT: i32 = -2;
 
 const UNKNOWN: i32 = -3;
 
-/// A command's first connection that ended or failed, if one did. All connections of the command share it and note
-/// their end there, since the error [`Failed`](ps_device::Failed) names no connection.
+/// Notes a command's first connection that ended or failed. All connections of the command share one `BrokenConnection`
+/// and note their end in it, since the error [`Failed`](ps_device::Failed) names no connection.
 ///
-/// No clause says which connection it has.
+/// No contract says which connection is noted.
 #[derive(Drop)]
 pub struct BrokenConnection {
     port: AtomicU16,
@@ -27,7 +27,7 @@ pub struct BrokenConnection {
 }
 
 impl BrokenConnection {
-    /// Creates a `BrokenConnection` for a command that starts: no connection has ended or failed yet.
+    /// Creates a `BrokenConnection` that has noted no connection yet.
     pub fn new() -> BrokenConnection {
         BrokenConnection {
             port: AtomicU16::new(0),
@@ -60,7 +60,7 @@ impl BrokenConnection {
         self.code.store(NONE, Ordering::SeqCst);
     }
 
-    /// Returns the port of the first connection that ended, and how, if one did.
+    /// Returns the first connection that ended or failed, with the reason, or `None` if none did.
     pub fn found(&self) -> Option<ConnectionFault> {
         let reason = match self.code.load(Ordering::SeqCst) {
             NONE => return None,
@@ -76,8 +76,8 @@ impl BrokenConnection {
     }
 }
 
-/// Returns the broken connection that explains the fault, if one does. Only the refusals `Device` and `Line` can have
-/// this cause.
+/// Returns the connection that `broken` has noted, if `fault` is `Refused(Device)` or `Refused(Line)`. A broken
+/// connection causes no other fault, so the result is `None` for all others.
 pub fn connection_fault(
     fault: &ProgramFault,
     broken: &BrokenConnection,
@@ -88,25 +88,26 @@ pub fn connection_fault(
     }
 }
 
-/// How a connection ended.
+/// Why a connection ended or failed.
 #[derive(Clone, Copy, Debug, PartialEq, Eq)]
 pub enum BreakReason {
-    /// The other end closed it.
+    /// The other end closed the connection.
     Ended,
-    /// The other end stood still for longer than the command waits.
+    /// A read or a write waited for too long: 60 seconds, or the system's own limit.
     Silent,
-    /// The system's reason, by its number.
+    /// The system reported the error with this number (`errno`).
     System(i32),
-    /// The system gave no reason.
+    /// The connection failed, and the system gave no reason.
     Unknown,
 }
 
-/// A connection that ended, by its port, and how. Its text is one line, without its line feed.
+/// A connection that ended or failed: its port and the reason. Its text is a line for standard error, without the line
+/// feed.
 #[derive(Clone, Copy, Debug, PartialEq, Eq)]
 pub struct ConnectionFault {
-    /// The port.
+    /// The port that the connection was opened to.
     pub port: u16,
-    /// How it ended.
+    /// Why the connection ended or failed.
     pub reason: BreakReason,
 }
 

@@ -1,4 +1,4 @@
-//! The command `join --check`: says whether two replicas hold the same.
+//! The command `join --check`: reports whether two replicas hold the same in every cell.
 ghost use Rattle.std.specs.Prelude.{◌≡◌, ◌⊎◌, ◌<◌, ℕ, List, [], IfErr, IfOk, OnOk};
 ghost use Rattle.std.specs.Io.KnownBytes.{Appends};
 ghost use Rattle.ps_grid.specs.Blanks.{IsBlankOf};
@@ -52,10 +52,13 @@ fn status_of_step(step: &Step) -> u8
     if step.is_even() { 0 } else { OUT_OF_STEP }
 }
 
-/// Compares what the replicas at two ports hold, and returns the exit status: 0 if it is the same, else 3.
+/// Compares what the replicas at two ports hold, and returns the exit status: 0 if no cell differs, 3 if one does.
 ///
-/// It connects to `from` of `options` first, then to `to`; both are ports of this machine. It asks each for all of its
-/// changes, and for nothing else. At the end it writes `in step at` and the versions, or `differ` and the cells.
+/// It connects to the port `options.from` first, then to `options.to`, both on this machine. It asks each replica for
+/// all of its changes, and merges nothing.
+///
+/// At the end it writes a line to `out`: `in step at` and both versions, or `differ`, the number of cells that differ,
+/// and the names of the first 20.
 ///
 /// # Errors
 ///

@@ -1,8 +1,8 @@
 //! Lines for standard error, written while a command runs.
 //!
-//! They report the file that was opened, changes that the sheet's own replica made elsewhere, and connections that
-//! can't be accepted for now. No reply and no change depends on them. A line is lost if it can't be written, or if
-//! allocation fails.
+//! They report which file was opened, changes with the sheet's replica number that another sheet makes, and connections
+//! that can't be accepted for now. No reply and no change depends on these lines. A line is lost if it can't be
+//! written, or if allocation fails.
 use crate::explain::Observer;
 use crate::fault::ProgramFault;
 use crate::kept::OpenedFile;
@@ -14,12 +14,13 @@ use std::alloc::Global;
 use std::fmt;
 use std::io::Write;
 
-/// The warning that a replica also makes changes elsewhere, or that its file has lost lines.
+/// The warning that another sheet makes changes with this sheet's replica number, or that lines of this sheet's file
+/// were lost.
 ///
 /// Its text is a line for standard error, without the line feed.
 #[derive(Clone, Copy, Debug)]
 pub struct NumberElsewhere<'a> {
-    /// The replica.
+    /// The replica number of the sheet.
     pub replica: u8,
     /// The path of the sheet's file, as it was given.
     pub path: &'a str,
@@ -36,7 +37,7 @@ impl fmt::Display for NumberElsewhere<'_> {
     }
 }
 
-/// The warning that a server can accept no connection for now.
+/// The warning that a server can accept no connection for now, as too many files are open or memory is lacking.
 ///
 /// Its text is a line for standard error, without the line feed.
 #[derive(Clone, Copy, Debug, PartialEq, Eq)]
@@ -50,8 +51,8 @@ impl fmt::Display for Crowded {
     }
 }
 
-/// The two warnings of a running command, each written at most once: changes made elsewhere, and connections that can't
-/// be accepted. Without a writer nothing is written.
+/// Writes two warnings of a running command, each at most once: [`NumberElsewhere`] and [`Crowded`]. A `Warner` without
+/// a writer writes nothing.
 #[derive(Drop)]
 pub struct Warner<'a, W: Write + Drop> {
     alloc: Global,
@@ -64,7 +65,7 @@ pub struct Warner<'a, W: Write + Drop> {
 }
 
 impl<'a, W: Write + Drop> Warner<'a, W> {
-    /// Returns a warner that writes both warnings to the writer of `left`, or nothing if `left` is `None`.
+    /// Returns a warner that writes both warnings to the writer in `left`. If `left` is `None`, it writes nothing.
     pub fn new(alloc: Global, left: Option<(NumberElsewhere<'a>, W)>) -> Warner<'a, W> {
         let (elsewhere, out) = match left {
             Some((number, out)) => (Some(number), Some(out)),
@@ -78,7 +79,7 @@ impl<'a, W: Write + Drop> Warner<'a, W> {
         }
     }
 
-    /// Returns a warner that writes to `out`, and only the warning of connections.
+    /// Returns a warner that writes only the warning [`Crowded`], to `out`.
     pub fn of_connections(alloc: Global, out: W) -> Warner<'a, W> {
         Warner {
             alloc,
@@ -105,7 +106,8 @@ impl<W: Write + Drop> Warn for Warner<'_, W> {
     }
 }
 
-/// Reports the opened file on `out`, and returns a [`Warner`] that writes there too.
+/// Writes the opened file's path and its number of changes to `out`, and returns a [`Warner`] that writes to `out`. The
+/// line is lost if it can't be written, or if allocation fails.
 pub fn tell_opened<'a, W: Write + Drop>(
     alloc: Global,
     path: &'a str,
@@ -121,8 +123,8 @@ pub fn tell_opened<'a, W: Write + Drop>(
 
 /// An observer of a session of a sheet that is stored in a file.
 ///
-/// It does what an [`Observer`] does. It also warns at once when a line pushes changes of the sheet's own replica that
-/// the sheet doesn't have.
+/// It does what an [`Observer`] does. In addition it warns when a line pushes changes that have the sheet's own replica
+/// number and that the sheet doesn't have.
 #[derive(Drop)]
 pub struct KeptObserver<'a, W: Write + Drop> {
     observer: Observer<W>,
@@ -135,7 +137,7 @@ impl<'a, W: Write + Drop> KeptObserver<'a, W> {
         KeptObserver { observer, warner }
     }
 
-    /// Ends the session, as [`Observer::end`] does.
+    /// Fails with [`ProgramFault::LinesRefused`] if `strict` is true and a line of the session was refused.
     pub fn end(&self, strict: bool) -> Result<(), ProgramFault> {
         self.observer.end(strict)
     }

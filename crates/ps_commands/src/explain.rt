@@ -1,7 +1,6 @@
 //! Notes with hints about lines of a session, and about fields of a table, written while they are read.
 //!
-//! They only observe: no reply and no change depends on them. A note is lost if it can't be written, or if allocation
-//! fails.
+//! An [`Observer`] changes no reply and no cell. A note is lost if it can't be written, or if allocation fails.
 
 use crate::fault::ProgramFault;
 use crate::notice::tell_line;
@@ -12,23 +11,24 @@ use ps_lines::{Outcome, Watcher};
 use std::alloc::Global;
 use std::io::Write;
 
-/// An observer that writes a note about each line, or each field of a table, that has a hint.
+/// An observer that writes notes with hints for the user, about lines of a session, or about fields and records of a
+/// table.
 ///
-/// In a session it also counts the lines. In a table it writes about each field that looks like a number or a formula
-/// but is a text. Its note about the first refused field is the last one.
+/// A line or field has a note if it was refused and `ps_hints` has a hint for it, or if its entry looks like a number
+/// or a formula but became a text. In a session the observer also counts the lines and the refused lines.
 #[derive(Drop)]
 pub struct Observer<W: Write + Drop> {
     alloc: Global,
     /// The writer of the notes, if any are to be written.
     out: Option<W>,
-    /// The number of lines that ended; 2^64 - 1 stands for more, too.
+    /// The number of lines so far. 2^64 - 1 also stands for any greater number.
     lines: u64,
-    /// The number of them that were refused; 2^64 - 1 stands for more, too.
+    /// The number of refused lines so far. 2^64 - 1 also stands for any greater number.
     refused: u64,
 }
 
 impl<W: Write + Drop> Observer<W> {
-    /// Returns an observer that has seen nothing and writes notes to `out`. Without `out` it only counts.
+    /// Returns an observer that has seen nothing and writes notes to `out`. If `out` is `None`, it only counts lines.
     pub fn new(alloc: Global, out: Option<W>) -> Observer<W> {
         Observer {
             alloc,
@@ -38,7 +38,7 @@ impl<W: Write + Drop> Observer<W> {
         }
     }
 
-    /// Ends a session: fails with [`ProgramFault::LinesRefused`] if it is `strict` and a line was refused.
+    /// Fails with [`ProgramFault::LinesRefused`] if `strict` is true and a line of the session was refused.
     pub fn end(&self, strict: bool) -> Result<(), ProgramFault> {
         if strict && self.refused > 0 {
             return Err(ProgramFault::LinesRefused(self.refused));
@@ -46,7 +46,7 @@ impl<W: Write + Drop> Observer<W> {
         Ok(())
     }
 
-    /// Returns the writer of the notes, if there is one.
+    /// Returns the writer of the notes, or `None` if the observer only counts.
     pub fn into_out(self) -> Option<W> {
         let Observer { out, .. } = self;
         out

@@ -1,4 +1,4 @@
-//! How the program ends before its work is done.
+//! The faults that end the program before its work is done.
 ghost use Rattle.std.specs.Prelude.{◌≡◌};
 ghost use Rattle.ps_grid.specs.declared.refusal.Refusal.TheVariants.{Device, Memory};
 ghost use Rattle.ps_commands.specs.Status.{exit_status, program_fault, session_fault, sync_fault};
@@ -33,26 +33,27 @@ impl fmt::Display for Spelled<'_> {
     }
 }
 
-/// What ended the program. Its text is the line that standard error gets: `err`, the refusal's number and its name, or
-/// a peer's own such line.
+/// A fault that ended the program. Its text is for standard error, without the last line feed. It is mostly one line,
+/// `err` with a refusal's number and name; a variant says so if it has another text.
 #[derive(Debug, Drop, Error)]
 pub enum ProgramFault {
-    /// A call was refused.
+    /// A call was refused, with this refusal.
     #[error("{0}")]
     Refused(Refusal),
-    /// The reader of the crate `csv` failed on a table, with this error. The text is that of `Csv`.
+    /// The reader of the crate `csv` failed on a table, with this error. The text is that of the refusal `Csv`.
     #[error("{}", Refusal::Csv)]
     ReaderFailed(csv::Error),
     /// A peer refused a request. The text is its reply, with each control character spelled out.
     #[error("{}", Spelled(.0.as_str()))]
     PeerRefused(String),
-    /// So many lines of a strict session were refused.
+    /// This many lines of a session with `--strict` were refused. The text is `refused lines: ` and the number.
     #[error("refused lines: {0}")]
     LinesRefused(u64),
-    /// A line of the input is no delta's. The text is that of `Delta`, and below it the line's number, from 1 on.
+    /// The line with this number, counted from 1, is no delta line. The text is that of the refusal `Delta`, with a
+    /// second line, `line` and the number.
     #[error("{}\nline {}", Refusal::Delta, .0)]
     DeltaRefused(u64),
-    /// A port of this machine can't be used. The text is that of `Device`.
+    /// A port of this machine can't be used. The text is that of the refusal `Device`.
     #[error("{}", Refusal::Device)]
     PortFailed(PortFault),
     /// A file can't store the sheet, or no longer can. The text is that of [`FileNotTaken`].
@@ -126,7 +127,8 @@ impl From<RunFault> for ProgramFault {
     }
 }
 
-/// Returns the fault that ends the program after an import has failed with `fault`.
+/// Returns the fault for an import that failed: `ReaderFailed` if the import fault has an error of `csv`'s reader, else
+/// `Refused`.
 pub fn fault_of_import(fault: ImportFault) -> ProgramFault
     ensures { result ≡ program_fault fault.reader_error fault.refusal }
 {
@@ -136,7 +138,8 @@ pub fn fault_of_import(fault: ImportFault) -> ProgramFault
     }
 }
 
-/// Returns the exit status: 1 if a device failed, if a port can't be used, or if [`FileNotTaken::status`] is 1; else 3.
+/// Returns the program's exit status for this fault: 1 if a device failed, if a port can't be used, or if
+/// [`FileNotTaken::status`] is 1. For any other fault it is 3.
 pub fn status_of(fault: &ProgramFault) -> u8
     ensures { result ≡ exit_status fault.now }
 {

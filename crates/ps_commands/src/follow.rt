@@ -15,10 +15,11 @@ use std::marker::Brand;
 use std::net::{Net, TcpStream};
 use std::sync::ledger::Ledger;
 
-/// Writes the changes of the replica at a port of this machine as change lines.
+/// Writes the changes of the replica at a port of this machine to `out`, as change lines.
 ///
-/// It writes those that the replica has after the first `after` of `options`, and then each new one, until the replica
-/// closes the connection. With `until_now` it ends once the replica has no more. It waits for a change without polling.
+/// It skips the replica's first `options.after` changes, and writes all later ones. Then it writes each new change,
+/// without polling, until the replica closes the connection. With `options.until_now` it ends once the replica has no
+/// more changes.
 ///
 /// # Errors
 ///

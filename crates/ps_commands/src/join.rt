@@ -49,10 +49,11 @@ fn join_streams_once<I: Ledger, O: Ledger, J: Ledger, P: Ledger>(
     }
 }
 
-/// Merges all that the replica at one port has at the one at another, and then all that this one has at the first.
+/// Merges all changes of the replica at port `options.from` at the one at port `options.to`, and then all changes of
+/// the second at the first.
 ///
-/// It connects to `from` of `options` first, then to `to`; both are ports of this machine. At the end it writes
-/// `joined`.
+/// It connects to `options.from` first, then to `options.to`, both on this machine. At the end it writes the line
+/// `joined` to `out`.
 ///
 /// # Errors
 ///
@@ -176,21 +177,24 @@ fn join_again<R: Net<Stream = TcpStream> + Clock, W: Write + Drop>(
     }
 }
 
-/// Merges all that each of the replicas at two ports has at the other, and then each change that one of them gets.
+/// Keeps the replicas at two ports at the same changes, and returns the fault that ends this. It merges all changes of
+/// each at the other, and then each new change.
 ///
-/// It connects to `from` of `options` first, then to `to`; both are ports of this machine. If an end is lost, it
-/// connects to both again. It pauses before that: for 0.1 seconds, then for twice as long each time, at most 10
-/// seconds. After a whole exchange the first pause is the next one again.
+/// It connects to `options.from` first, then to `options.to`, both on this machine. An end is lost if its port can't be
+/// connected to, its connection ends, or its replica refuses a request or gives a reply that doesn't fit. Then
+/// `join_on` pauses, and connects to both ports again. The first pause takes 0.1 seconds, and each further one twice as
+/// long, up to 10 seconds. Once both replicas have the same changes, the next pause takes 0.1 seconds again.
 ///
-/// `told` gets a line when both replicas have the same changes over new connections. It gets another line when an end
-/// is lost, with the reason. It doesn't get the same reason twice until both have the same changes again.
+/// `told` gets a line when both replicas have the same changes over new connections, and a line with the reason when an
+/// end is lost. No line about a lost end is written twice before both have the same changes again, except after 64
+/// different ones or when out of memory.
 ///
 /// # Errors
 ///
 /// - `Memory` if allocation fails.
 /// - `Device` after 2^64 - 1 lost ends.
 ///
-/// Cost: that of [`join`] over each two connections, and 0.8 MB of memory.
+/// Cost: that of [`join`] for each pair of connections, and 0.8 MB of memory.
 pub fn join_on<R: Net<Stream = TcpStream> + Clock, W: Write + Drop>(
     ports: Ports<'_, R>,
     alloc: Global,

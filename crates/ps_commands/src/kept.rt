@@ -1,4 +1,4 @@
-//! Opens the kept file of a sheet, and says why a file is refused or failed later.
+//! Opens the kept file of a sheet, and says why such a file is refused, or why it failed later.
 ghost use Rattle.std.specs.Prelude.{◌≡◌, ◌⊎◌, ℕ, List, IfErr, IfOk};
 ghost use Rattle.ps_kept.specs.Starts.{Reads};
 ghost use Rattle.ps_keep.specs.Digests.{IsClean};
@@ -27,37 +27,38 @@ use std::rt::{Files, HostRuntime};
 use std::sync::ledger::Ledger;
 use std::thread::Threads;
 
-/// How to find a kept file, and why a call on it failed, if one did.
+/// The path of a kept file, with the reason of its first failed call, which the fault names.
 #[derive(Clone, Copy)]
 pub struct KeptName<'a> {
     /// The system that the file is on.
     pub system: HostRuntime,
     /// The path of the file, as it was given.
     pub path: &'a str,
-    /// Why the first call that failed did so.
+    /// Why the first failed call on the file failed; empty as long as no call has failed.
     pub reason: &'a FailureReason,
 }
 
-/// Why a file is refused for a sheet, or why a kept file failed later.
+/// Why a kept file is refused at the start, or failed later.
 #[derive(Clone, Copy, Debug, PartialEq, Eq)]
 pub enum KeptTrouble {
-    /// The line with this number, 1 or more, may not stand there.
+    /// The line with this number, counted from 1, isn't allowed where it stands. Line 1 has to name the replica, and
+    /// each later line has to push a delta that adds something new.
     Line(u64),
-    /// The digest line with this number, 1 or more, doesn't match the lines before it.
+    /// The line with this number, counted from 1, is a digest line that doesn't match the lines before it.
     Damaged(u64),
-    /// The file has the sheet of this other replica.
+    /// The file has the sheet of another replica, which has this number.
     Replica(u8),
-    /// Another program has the file.
+    /// Another program holds the file's lock.
     Busy,
-    /// The file can't be opened, read or written.
+    /// The file can't be opened, read or written, for this cause.
     Unusable(FileCause),
-    /// The file failed after it was opened: it couldn't be written, or was removed, moved, replaced or cut. `None` when
-    /// out of memory for its lines.
+    /// The file failed after it was opened: it couldn't be written, or was removed, moved, replaced or cut. The cause
+    /// is `None` if memory for a line of the file was lacking.
     Lost(Option<FileCause>),
 }
 
-/// A file that is refused for a sheet or failed later, and why. Its text is two lines, without the last line feed: the
-/// refusal, and what is wrong with the file.
+/// A kept file that is refused at the start or failed later, and why. Its text is two lines, without the last line
+/// feed: `err` with a refusal's number and name, then what is wrong with the file.
 #[derive(Debug, Drop)]
 pub struct FileNotTaken {
     /// The path of the file, as it was given.
@@ -67,7 +68,8 @@ pub struct FileNotTaken {
 }
 
 impl FileNotTaken {
-    /// Returns the exit status: 1 if another program has the file, if it can't be used, or if it failed later; else 3.
+    /// Returns the program's exit status for this fault: 1 if another program has the file, if it can't be used, or if
+    /// it failed later. If the file's content is refused, it is 3.
     pub fn status(&self) -> u8
         ensures { result ≡ kept_status self.now.trouble }
     {
@@ -134,12 +136,12 @@ pub(crate) fn not_taken(alloc: Global, path: &str, trouble: KeptTrouble) -> Prog
     }
 }
 
-/// Returns the fault for a kept file that failed after it was opened. It names the file's path and the reason in
-/// `name`.
+/// Returns the fault for a kept file that failed after it was opened: [`ProgramFault::KeptFailed`] with the path and
+/// the cause that `name` has.
 ///
-/// When out of memory for the path, it is `Refused(Device)`, which names no file.
+/// If allocation of the path fails, it returns `Refused(Device)`, which names no file.
 ///
-/// Cost: linear in the path.
+/// Cost: linear in the length of the path.
 pub fn lost_file(alloc: Global, name: KeptName<'_>) -> ProgramFault
     ensures { TellsLoss result }
 {
@@ -235,16 +237,17 @@ fn in_file(numbers: &LineNumbers, fault: ProgramFault) -> ProgramFault
     }
 }
 
-/// Reads the sheet of the replica that `options` ask for from its file, and logs its changes there from then on.
+/// Reads a sheet from its file `found`, as [`open_kept`] does, and returns it with the keeper that logs its changes in
+/// the file.
 ///
-/// It does so as [`open_kept`] does. `path` is that of the file, for the fault that names it.
+/// The sheet has the replica and the workers of `options`. A fault names the file by `path`.
 ///
 /// # Errors
 ///
-/// - [`ProgramFault::KeptFailed`] if a line may not stand there, or the file is another replica's. Then the file is as
-///   it was.
+/// - [`ProgramFault::KeptFailed`] if a line isn't allowed where it stands ([`KeptTrouble::Line`]), or if the file is
+///   another replica's. Then the file stays as it was.
 /// - `Device` if the device fails.
-/// - `Memory`.
+/// - `Memory` if allocation fails.
 ///
 /// Cost: that of [`open_kept`].
 pub fn keep_sheet<R: Threads + Sync, F: Found + Drop, L: Ledger>(
@@ -275,21 +278,23 @@ pub fn keep_sheet<R: Threads + Sync, F: Found + Drop, L: Ledger>(
     }
 }
 
-/// Opens or creates the file of this path, reads the sheet from it, and logs the sheet's changes there from then on.
+/// Opens or creates the file `name.path`, and returns its sheet with the keeper that logs the sheet's changes in the
+/// file.
 ///
-/// The sheet is that of the replica that `options` ask for. If they ask for it, the file is squashed first, where that
-/// makes it at most half as long. If it can't be squashed, it stays.
+/// The sheet has the replica and the workers of `options`. With `options.squash` the file is squashed first, if that
+/// makes it at most half as long. A failure to squash it is ignored.
 ///
 /// # Errors
 ///
-/// - [`ProgramFault::KeptFailed`] if another program has the file, a line may not stand there, or the file is another
-///   replica's.
-/// - [`ProgramFault::KeptFailed`], too, if it is no regular file, or can't be opened for reading and writing, and if a
-///   digest line doesn't match the lines before it.
-/// - `Device` if the device fails, and the system gives no reason.
-/// - `Memory`.
+/// - [`ProgramFault::KeptFailed`] if the file's content is refused. A line isn't allowed where it stands
+///   ([`KeptTrouble::Line`]), a digest line doesn't match the lines before it, or the file is another replica's.
+/// - [`ProgramFault::KeptFailed`] also if another program has the file, it is no regular file, or the system can't
+///   open, read or write it and gives the reason.
+/// - `Device` if the device fails without a reason of the system.
+/// - `Memory` if allocation fails.
 ///
-/// Cost: that of [`keep_sheet`], and twice the memory of the file's bytes.
+/// Cost: that of [`keep_sheet`], and memory for twice the file's bytes. With `options.squash`, also that of
+/// [`squash_kept`](crate::squash_kept).
 pub fn open_kept_sheet<R: Files<File = File> + Threads + Sync, L: Ledger>(
     resources: Resources<'_, R>,
     name: KeptName<'_>,
@@ -317,12 +322,12 @@ pub fn open_kept_sheet<R: Files<File = File> + Threads + Sync, L: Ledger>(
     }
 }
 
-/// What was opened: a line for standard error, without its line feed.
+/// The report that a kept file was opened. Its text is a line for standard error, without the line feed.
 #[derive(Clone, Copy, Debug)]
 pub struct OpenedFile<'a> {
     /// The path of the file, as it was given.
     pub path: &'a str,
-    /// How many changes it has.
+    /// The number of changes that the file has.
     pub changes: u64,
 }
 

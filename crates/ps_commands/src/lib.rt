@@ -1,34 +1,38 @@
 //! The commands of the program `sheet`, over any source and sink: sessions, tables, `serve`, `sync`, `join`, `follow`,
 //! `talk`, `squash`, and how each ends.
 //!
-//! It is not the program: the caller passes sources, sinks and options. Nothing is stored from one call to the next,
-//! except in the file of a durable sheet.
+//! This crate is not the program: the caller passes sources, sinks and options. Nothing is stored from one call to the
+//! next, except in the file of a durable sheet.
 //!
 //! The contracts to use:
 //!
-//! - [`answer_lines`]: what was read and written is the transcript of an empty sheet.
-//! - [`answer_kept`]: whatever ends it, all lines whose replies were sent are durable (`IsCovered`, of `ps_session`).
-//! - [`table_on`]: what was written is the table of what an empty sheet has or shows after it has read the table.
-//! - [`serve`]: the closed sheet is an empty one with what its sessions appended, as `ps_server` defines it.
-//! - [`serve_kept`]: at its end the journal has all of the sheet.
-//! - [`sync_on`], [`follow_on`] and [`talk_on`]: as `sync`, `follow` and `ask_lines` of `ps_peers`, at ports.
-//! - [`join_once_on`], [`join_on`] and [`join_pipe_on`]: as `join_once` and `join` of `ps_join`, at ports, or at a port
-//!   and an input and an output.
-//! - [`relay_on`]: as `relay` of `ps_join`, at a port.
-//! - [`check_on`]: as `compare` of `ps_step`, at ports. What was written says which cells differ.
-//! - [`squash_on`] and [`squash_part_on`]: what was written is what `ps_squash` defines for the lines.
+//! - [`answer_lines`]: what was written is the transcript that an empty sheet gives for what was read.
+//! - [`answer_kept`]: whatever ends the call, all changes of lines whose replies were sent are durable (`IsCovered`, of
+//!   `ps_session`).
+//! - [`table_on`]: what was written is the table of what an empty sheet shows, or of its entries, after it has read the
+//!   table.
+//! - [`serve`]: the closed sheet is an empty sheet after all that its sessions did, as `ps_server` defines it.
+//! - [`serve_kept`]: when it returns the closed sheet, the journal has the sheet's whole history.
+//! - [`sync_on`], [`follow_on`] and [`talk_on`]: the contracts of `sync`, `follow` and `ask_lines` of `ps_peers`, for
+//!   peers at ports.
+//! - [`join_once_on`], [`join_on`] and [`join_pipe_on`]: the contracts of `join_once` and `join` of `ps_join`. The two
+//!   peers are at ports; for [`join_pipe_on`] one is behind an input and an output.
+//! - [`relay_on`]: the contract of `relay` of `ps_join`, for a server at a port.
+//! - [`check_on`]: the contract of `compare` of `ps_step`, for peers at ports. What was written says how many cells
+//!   differ, and names the first 20.
+//! - [`squash_on`] and [`squash_part_on`]: what was written is what `ps_squash` defines for the lines read.
 //!
-//! A [`ProgramFault`] is what ends the program early, and [`status_of`] returns its exit status. It is 1 if a device
-//! failed, a port can't be used or another program has the file, and else 3. [`port_fault`] returns why a port can't be
-//! used.
+//! A [`ProgramFault`] ends the program early, and [`status_of`] returns the exit status for it. The status is 1 if a
+//! device failed, a port or a file can't be used, or another program has the file. For any other fault it is 3.
+//! [`port_fault`] returns why a port can't be used.
 //!
-//! [`open_kept_sheet`] opens a durable sheet by [`keep_sheet`]. A [`FileNotTaken`] says why a file is refused. A
-//! [`Warner`] warns once if the replica of a durable sheet also makes changes elsewhere.
+//! [`open_kept_sheet`] opens a durable sheet. A [`FileNotTaken`] says why the sheet's file is refused or failed. A
+//! [`Warner`] warns once if another sheet makes changes with the replica number of a durable sheet.
 //!
-//! From a source of `set A1 5` and `get A1`, [`answer_lines`] writes `ok 1` and `val 5` on its sink. From one of
-//! `2,=[.A1]*3`, [`table_on`] writes `2,6`.
+//! For example, [`answer_lines`] reads `set A1 5` and `get A1`, and writes `ok 1` and `val 5`. [`table_on`] reads
+//! `2,=[.A1]*3`, and writes `2,6`.
 //!
-//! Cost: that of the sessions, or of an import and an export.
+//! Cost: that of the lines of the sessions; of an import and an export for [`table_on`].
 #![tactic(auto)]
 
 mod broken;

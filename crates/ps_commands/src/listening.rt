@@ -1,4 +1,4 @@
-//! The command `serve`: the lines of several sessions in, the replies of one sheet out.
+//! The command `serve`: answers the lines of several sessions by one sheet.
 ghost use Rattle.std.specs.Prelude.{◌≡◌, ◌⊎◌, ◌<◌, ◌++◌, [], IfErr, IfOk, IfSome, OnErr, OnOk, Some, length};
 ghost use Rattle.std.specs.Io.KnownBytes.{Appends};
 ghost use Rattle.ps_grid.specs.declared.refusal.Refusal.TheVariants.{Device};
@@ -95,15 +95,18 @@ fn tell_page<W: Write>(alloc: Global, port: u16, told: &mut W) {
     tell_line(alloc, &PageAddress { port }, told);
 }
 
-/// Serves sessions on an empty sheet at a port of this machine, as [`serve_on`] does, and returns the closed sheet.
+/// Serves sessions over TCP on a new, empty sheet, as [`serve_on`] does, and returns the closed sheet.
 ///
-/// It listens on the port, opens the sheet of the replica asked for, and writes `listening` and the port. At the end it
-/// writes `closed` and the version. `told` gets the address of the page, and the warning of connections.
+/// It listens on `options.port` of this machine, and writes `listening` and the port to `out`. Once `options.sessions`
+/// sessions have ended, it writes `closed` and the sheet's version. If `options.sessions` is `None`, it serves until
+/// the program is stopped.
+///
+/// `told` gets the address of the sheet's page, and a warning if connections can't be accepted for now.
 ///
 /// # Errors
 ///
 /// - [`ProgramFault::PortFailed`] if the port can't be listened on. Then nothing was written.
-/// - `Memory` if allocation of the sheet fails.
+/// - `Memory` if the sheet can't be allocated.
 /// - `Device` if `out` fails.
 /// - Otherwise those of [`serve_on`].
 ///
@@ -152,17 +155,25 @@ pub fn serve<
     }
 }
 
-/// Serves sessions on the sheet of a file at a port of this machine, as [`serve_kept_on`] does.
+/// Serves sessions over TCP on the sheet of a kept file, as [`serve_kept_on`] does, and returns the closed sheet with
+/// its journal.
 ///
-/// It listens on the port, opens the file of `name`, and writes `listening` and the port. At the end it writes `closed`
-/// and the version, and returns the closed sheet with its journal. `told` gets the address of the page, the opened
-/// file, and the warnings.
+/// It listens on `options.port` of this machine, opens the file of `name`, and writes `listening` and the port to
+/// `out`. Once `options.sessions` sessions have ended, it writes `closed` and the sheet's version. If
+/// `options.sessions` is `None`, it serves until the program is stopped.
 ///
-/// The path of `name` is what `options.keep` has. It is a parameter of its own, so that no call can be made of options
-/// without a file.
+/// `told` gets the address of the sheet's page, the opened file's path, and the warnings of a [`Warner`].
 ///
-/// A port that can't be listened on, and a file that is refused, are faults of their own. Then nothing was written. If
-/// the device fails later, the fault names the file ([`lost_file`]).
+/// `name.path` is the path of `options.keep`. It is a parameter of its own, so that nobody can call this without a
+/// file.
+///
+/// # Errors
+///
+/// - [`ProgramFault::PortFailed`] if the port can't be listened on. Then nothing was written.
+/// - Those of [`open_kept_sheet`] if the file is refused. Then nothing was written.
+/// - The fault of [`lost_file`], which names the file, if [`serve_kept_on`] fails with `Device`.
+/// - `Device` if `out` fails.
+/// - Otherwise the errors of [`serve_kept_on`].
 ///
 /// Cost: that of [`open_kept_sheet`] and of [`serve_kept_on`].
 pub fn serve_kept<

@@ -160,18 +160,20 @@ fn pipe<S: Source + Drop, K: Sink + Drop, W: Write + Drop, I: Ledger, O: Ledger>
     Ok(join(alloc, &mut other, &mut standard, lookout))
 }
 
-/// Merges all that the replica at a port has at the one behind an input and an output, all that this one has at the
-/// other, and then each change that one of them gets. `options` says whose changes go first.
+/// Keeps a replica at a port and one behind an input and an output at the same changes. It merges all changes of each
+/// at the other, and then each new change. With `options.is_first` the changes of the replica behind the input are
+/// merged first.
 ///
-/// It connects to the port of this machine once. It ends once an end is lost, and reports the end on `told`. With
-/// `once` it ends once each has what the other one had. `told` gets a line when both have the same changes.
+/// It connects to `options.port` of this machine once, and not again. Without `options.once` it only ends with an
+/// error. With `options.once` it ends once each replica has all that the other one had. `told` gets a line when both
+/// have the same changes, and without `options.once` a line that says which end is lost.
 ///
 /// # Errors
 ///
 /// - [`ProgramFault::PortFailed`] if the port can't be connected to.
 /// - `Memory` if allocation fails.
-/// - `Device` if an end is lost.
-/// - With `once`: those of [`join_once`].
+/// - `Device` if an end is lost, or if waiting for bytes of both ends can't be set up.
+/// - With `options.once`: those of [`join_once`], instead of `Device`, if an end is lost.
 ///
 /// Cost: that of [`join`], and 0.8 MB of memory.
 pub fn join_pipe_on<R: Net<Stream = TcpStream>, S: Source + Drop, K: Sink + Drop, W: Write + Drop>(

@@ -11,24 +11,24 @@ use std::net::{Ipv4Addr, Net, TcpListener, TcpStream};
 /// Why a port can't be used.
 #[derive(Clone, Copy, Debug, PartialEq, Eq)]
 pub enum PortTrouble {
-    /// Another program listens on it.
+    /// Listening fails: another program listens on the port.
     Taken,
-    /// The user of the program may not listen on it.
+    /// Listening fails: the user of the program may not listen on the port.
     Forbidden,
-    /// Listening on it fails for another reason.
+    /// Listening fails for another reason.
     Unheard,
-    /// Nobody listens on it.
+    /// Connecting fails: no program listens on the port.
     Silent,
-    /// Connecting to it fails for another reason.
+    /// Connecting fails for another reason.
     Unreached,
 }
 
-/// A port of this machine that can't be used, and why. Its text is one line, without its line feed.
+/// A port of this machine that can't be used, and why. Its text is a line for standard error, without the line feed.
 #[derive(Clone, Copy, Debug, PartialEq, Eq)]
 pub struct PortFault {
     /// The port.
     pub port: u16,
-    /// Why it can't be used.
+    /// Why the port can't be used.
     pub trouble: PortTrouble,
 }
 
@@ -51,7 +51,7 @@ impl fmt::Display for PortFault {
     }
 }
 
-/// The address of a server's page. Its text is a line for standard error, without its line feed.
+/// The address of a server's page. Its text is a line for standard error, without the line feed.
 #[derive(Clone, Copy, Debug, PartialEq, Eq)]
 pub struct PageAddress {
     /// The server's port.
@@ -65,7 +65,7 @@ impl fmt::Display for PageAddress {
     }
 }
 
-/// Returns the port that a fault is about, if it is about one.
+/// Returns the port that can't be used and why, if `fault` is [`ProgramFault::PortFailed`], else `None`.
 pub fn port_fault(fault: &ProgramFault) -> Option<PortFault>
     ensures { result ≡ port_fault_of fault.now }
 {
@@ -80,12 +80,12 @@ pub fn port_fault(fault: &ProgramFault) -> Option<PortFault>
     }
 }
 
-/// Where a command's connections come from, and what notes the first one that breaks.
+/// What a command opens its connections with, and what notes the first connection that breaks.
 #[derive_where(Clone, Copy)]
 pub struct Ports<'a, R> {
-    /// The source of the connections.
+    /// The network that listens and connects.
     pub rt: &'a R,
-    /// What notes the first one that breaks.
+    /// What notes the first connection that breaks.
     pub broken: &'a BrokenConnection,
 }
 

@@ -1,4 +1,5 @@
-//! The command `join --with --lines`: merges the lines of an input at a replica, and writes the changes of others.
+//! The command `join --with --lines`: merges the lines of an input at a replica, and writes the replica's other
+//! changes.
 ghost use Rattle.std.specs.Prelude.{◌≡◌, ℕ, List, Option, IfOk, OnErr, OnOk};
 ghost use Rattle.ps_grid.specs.Blanks.{IsBlankOf};
 ghost use Rattle.ps_commands.specs.Commands.{AreTried, IsAttempt, IsThroughWith, IsTried};
@@ -23,12 +24,12 @@ use std::sync::ledger::Ledger;
 use std::thread::sleep;
 use std::time::Clock;
 
-/// An input: where its bytes come from, and the descriptor by which the system reports that it has some.
+/// An input: the source of its bytes, and its file descriptor, by which the system reports that it has bytes.
 #[derive(Drop)]
 pub struct Input<S: Source + Drop> {
-    /// where the bytes come from
+    /// The source of the bytes.
     pub source: S,
-    /// the descriptor
+    /// The file descriptor of the input.
     pub file: RawFd,
 }
 
@@ -77,19 +78,24 @@ fn relay_anew<R: Net<Stream = TcpStream>, S: Source + Drop, W: Write + Drop, K: 
     }
 }
 
-/// Merges the merge lines of `input` at the replica at a port of this machine, and writes its changes that didn't come
-/// in so on `out`, as merge lines. Other lines are refused on `told` and passed over.
+/// Merges the merge lines of `input` (`merge` and a delta) at the replica at a port of this machine, and writes the
+/// replica's other changes to `out`, as merge lines. A merge line that the replica refuses, and any other line that
+/// isn't empty, is skipped and reported on `told`.
 ///
-/// It ends once the input has ended and all is merged and written. If the replica is lost, it connects again as
-/// [`join_on`](crate::join_on) does, and all is written again; with `once` it ends.
+/// It ends once the input has ended and all is merged and written. If the connection is lost or a request refused,
+/// `relay_on` pauses, connects again as [`join_on`](crate::join_on) does, and writes all of the replica's changes
+/// again. With `options.once` it ends instead. `told` also gets a line when all is exchanged for the first time over a
+/// connection, and a line when a connection is lost.
 ///
 /// # Errors
 ///
 /// - `Memory` if allocation fails.
-/// - `Device` if the input or `out` fails, or the system can't report what has bytes.
-/// - With `once`: [`ProgramFault::PortFailed`] if the port can't be connected to, and otherwise those of [`relay`].
+/// - `Device` if the input or `out` fails, if waiting for bytes of the input and the connection can't be set up, or
+///   after 2^64 - 1 lost connections.
+/// - With `options.once`: [`ProgramFault::PortFailed`] if the port can't be connected to, or the fault of the server
+///   that [`relay`] returns.
 ///
-/// Cost: that of [`relay`] over each connection, and 1.2 MB of memory.
+/// Cost: that of [`relay`] for each connection, and 1.2 MB of memory.
 pub fn relay_on<R: Net<Stream = TcpStream> + Clock, S: Source + Drop, K: Sink, W: Write + Drop>(
     ports: Ports<'_, R>,
     alloc: Global,

@@ -25,9 +25,9 @@ use std::alloc::Global;
 use std::sync::ledger::Ledger;
 use std::thread::Threads;
 
-/// Returns the empty sheet that a session begins with, with the replica and the workers of `options`.
+/// Returns a new, empty sheet with the replica and the workers of `options`.
 ///
-/// Fails only out of memory.
+/// Fails only with `Memory`, if allocation fails.
 ///
 /// Cost: that of [`Sheet::open`].
 pub fn open_sheet(alloc: Global, options: SheetOptions) -> Result<Sheet, Refusal>
@@ -38,15 +38,16 @@ pub fn open_sheet(alloc: Global, options: SheetOptions) -> Result<Sheet, Refusal
     Sheet::open(alloc, options.replica, usize::from(options.workers))
 }
 
-/// Answers each line of `source` on `sink` by an empty sheet, to the end of the input, while `watcher` observes.
+/// Answers each line of `source` from a new, empty sheet, to the end of the input, and writes the replies to `sink`.
 ///
-/// The sheet has the replica and the workers of `options`. It isn't freed, since the program ends next.
+/// The sheet has the replica and the workers of `options`. `watcher` sees each line and its outcome. The sheet isn't
+/// freed, since the program ends next.
 ///
 /// # Errors
 ///
 /// - `Memory` if allocation fails at the start. Then nothing was read or written.
-/// - `Device` if the source or the sink fails. What was read and answered until then is the transcript of that sheet.
-///   If a read failed, the replies due before it are still written.
+/// - `Device` if the source or the sink fails. If the source failed, all replies to the lines before were written. If
+///   the sink failed, a beginning of the due replies was written.
 ///
 /// Cost: that of opening a sheet, and of [`converse`].
 pub fn answer_lines<R: Threads + Sync, S: Source, K: Sink, L: Ledger, W: Watcher>(
@@ -90,19 +91,22 @@ pub fn answer_lines<R: Threads + Sync, S: Source, K: Sink, L: Ledger, W: Watcher
     Ok(())
 }
 
-/// Answers each line of `source` on `sink` by a durable sheet, to the end of the input, while `watcher` observes.
+/// Answers each line of `source` from `sheet`, to the end of the input, and writes the replies to `sink`. `keeper`
+/// makes each change durable.
 ///
-/// Before a reply is sent, all that the session has seen is durable.
+/// Before a reply is sent, all that the session has seen is durable. `watcher` sees each line and its outcome.
 ///
-/// At any end, also after a fault, the journal has on the disk the history of a state that the sheet had between lines.
-/// All replies that were sent answer lines up to that state (`IsCovered`). At the end of the input it is the last one.
+/// If a reply was sent, the journal has on disk the history of a state that the sheet had between two lines, and no
+/// reply to a later line was sent (`IsCovered` in the contract). This also holds after a fault. At the end of the input
+/// the journal has the sheet's last state.
 ///
 /// The sheet isn't freed, since the program ends next.
 ///
 /// # Errors
 ///
 /// - `Memory` if allocation fails at the start. Then nothing was read, written or logged.
-/// - `Device` if the source, the sink or the keeper fails. Nothing more is sent then.
+/// - `Device` if the source, the sink or the keeper fails. After a failure of the sink or the keeper no more replies
+///   are sent.
 ///
 /// Cost: that of [`converse`].
 pub fn answer_kept<

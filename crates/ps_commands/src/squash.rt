@@ -1,4 +1,5 @@
-//! The command `squash`: delta lines in, the few that say the same out; or a kept file, in its place.
+//! The command `squash`: reads delta lines and writes fewer change lines with the same join, or squashes a kept file in
+//! its place.
 ghost use Rattle.std.specs.Prelude.{◌≡◌, ◌≢◌, ◌⊎◌, ◌<◌, ◌≤◌, ℕ, List, [], Err, IfErr, IfOk, OnOk, take};
 ghost use Rattle.std.specs.Io.KnownBytes.{Appends, Consumes, IsAtEnd};
 ghost use Rattle.ps_grid.specs.declared.parties.TheConstants.{REPLICAS};
@@ -29,17 +30,18 @@ use std::rt::{Files, HostRuntime};
 use std::sync::ledger::Ledger;
 use std::thread::Threads;
 
-/// Reads delta lines to the end of the source, and writes change lines that say the same, as few as their cells need.
+/// Reads delta lines to the end of the source, and writes change lines that join into the same state, with as many
+/// cells in a line as it has room for.
 ///
-/// Nothing is written before all is read. At the end the sink is flushed. If the sink failed, a beginning of the due
-/// text was written.
+/// Nothing is written before all is read. At the end the sink is flushed. If the sink failed, it got a beginning of the
+/// text.
 ///
 /// # Errors
 ///
-/// - [`ProgramFault::DeltaRefused`], with the line's number, if a line is no delta's.
+/// - [`ProgramFault::DeltaRefused`], with the line's number, if a line is no delta line.
 /// - `Device` if the source or the sink fails.
-/// - `TooLong` if the lines hold more of one cell than a line has room for.
-/// - `Memory`.
+/// - `TooLong` if the joined state of one cell is too long for a line.
+/// - `Memory` if allocation fails.
 ///
 /// Cost: that of [`squash`].
 pub fn squash_on<S: Source, K: Sink>(
@@ -90,7 +92,8 @@ fn selection_of(options: SquashOptions<'_>) -> Selection
     }
 }
 
-/// Does as [`squash_on`] with the part of the lines that the options ask for, and returns what was left out.
+/// Squashes the part of the lines that `options.until` and `options.without` select, as [`squash_on`] squashes all
+/// lines, and returns what was left out.
 ///
 /// # Errors
 ///
@@ -150,7 +153,9 @@ impl fmt::Display for LostParts {
     }
 }
 
-/// Tells what was left out as the options asked for it.
+/// Writes to `told` how many lines `options.until` left out, and from how many cells `options.without` left out a part.
+/// It writes one line for each of the two options that is given. A line is lost if it can't be written, or if
+/// allocation fails.
 pub fn tell_left_out<W: Write>(
     alloc: Global,
     options: SquashOptions<'_>,
@@ -165,12 +170,12 @@ pub fn tell_left_out<W: Write>(
     }
 }
 
-/// What was squashed: a line for standard error, without its line feed.
+/// The report that a kept file was squashed. Its text is a line for standard error, without the line feed.
 #[derive(Clone, Copy, Debug)]
 pub struct SquashedFile<'a> {
     /// The path of the file, as it was given.
     pub path: &'a str,
-    /// How many changes it had and has.
+    /// The number of changes that the file had before, and has after.
     pub changes: Shortened,
 }
 
@@ -217,15 +222,17 @@ fn replica_told(alloc: Global, bytes: &[u8]) -> Result<u8, AllocError>
     }
 }
 
-/// Squashes the file of a durable sheet in its place, as [`shorten`] does, and reports its changes before and after.
+/// Squashes a kept file in its place, as [`shorten`] does, and writes its number of changes before and after to `told`.
 ///
 /// # Errors
 ///
-/// - [`ProgramFault::KeptFailed`] if another program has the file, a line may not stand there or ends in a carriage
-///   return, there is no such file, it is no regular one, or it can't be read.
-/// - `Device` if it can't be replaced.
-/// - `TooLong` if the file holds more of one cell than a line has room for.
-/// - `Memory`.
+/// - [`ProgramFault::KeptFailed`] if the file's content is refused. A line isn't allowed where it stands
+///   ([`KeptTrouble::Line`]), a line ends in a carriage return, or a digest line doesn't match the lines before it.
+/// - [`ProgramFault::KeptFailed`] also if another program has the file, there is no such file, it is no regular file,
+///   or the system can't read or replace it and gives the reason.
+/// - `Device` if the file can't be replaced, without a reason of the system.
+/// - `TooLong` if the joined state of one cell is too long for a line.
+/// - `Memory` if allocation fails.
 ///
 /// Cost: that of [`shorten`].
 pub fn squash_kept<R: Files<File = File> + Threads + Sync, L: Ledger, W: Write>(

@@ -40,10 +40,11 @@ fn sync_between<I: Ledger, O: Ledger, J: Ledger, P: Ledger>(
     }
 }
 
-/// Pushes all changes of the replica at one port to the replica at another, and reports the number of lines pushed.
+/// Pushes all changes of the replica at port `options.from` to the one at port `options.to`, and reports the number of
+/// lines pushed.
 ///
-/// It connects to `from` of `options` first, then to `to`; both are ports of this machine. At the end it writes
-/// `synced` and the number.
+/// It connects to `options.from` first, then to `options.to`, both on this machine. At the end it writes `synced` and
+/// the number to `out`.
 ///
 /// # Errors
 ///

@@ -1,4 +1,4 @@
-//! The command `table`: reads a table of entries, and writes the table of its shown values or of its entries.
+//! The command `table`: reads a CSV table of entries, and writes what its cells show, or their entries, as CSV.
 ghost use Rattle.std.specs.Prelude.{◌≡◌, ◌≢◌, ◌<◌, ◌≤◌, ◌⊎◌, ℕ, List, [], IfErr, IfOk, OnOk, Err, take};
 ghost use Rattle.std.specs.Io.KnownBytes.{Appends, Consumes, IsAtEnd};
 ghost use Rattle.std.specs.Option.{SomeIff};
@@ -19,24 +19,26 @@ use std::alloc::Global;
 use std::sync::ledger::Ledger;
 use std::thread::Threads;
 
-/// Reads a table of entries into an empty sheet of replica 1, and writes the table of what it shows.
+/// Reads a CSV table of entries into an empty sheet of replica 1, and writes what the sheet's cells show as a CSV
+/// table.
 ///
-/// If `options` ask for entries, it writes those instead. The table goes from A1 to the last record and the most fields
-/// of any record; without a record nothing is written. At the end the sink is flushed.
+/// With `options.entries` it writes the cells' entries instead. The written table has as many records as the table
+/// read, and as many columns as its longest record has fields. If there is no record, nothing is written. At the end
+/// the sink is flushed.
 ///
-/// Nothing is written before the whole table is read. `watcher` sees the fields as they are read, and changes nothing.
-/// The sheet isn't freed, since the program ends next.
+/// Nothing is written before the whole table is read. `watcher` sees the fields that are read. The sheet isn't freed,
+/// since the program ends next.
 ///
 /// # Errors
 ///
 /// - `Device` if the source or the sink fails. If the source failed, nothing was written. If the sink failed, a
-///   beginning of the due text was.
-/// - `Csv` if the source has too many bytes.
-/// - The refusal of the table's first fault in reading order.
-/// - [`ProgramFault::ReaderFailed`] if `csv`'s own reader failed.
-/// - `Memory`, in place of any of these.
+///   beginning of the table was written.
+/// - `Csv` if the source has more than `LONGEST_TABLE` bytes (of `ps_csv`).
+/// - The refusal of the first faulty field or record of the table, in reading order.
+/// - [`ProgramFault::ReaderFailed`] if the reader of the crate `csv` failed.
+/// - `Memory` if allocation fails. It may be returned instead of any other error.
 ///
-/// Cost: that of an import and an export, and the watcher's own.
+/// Cost: that of an import and an export, and that of `watcher`.
 pub fn table_on<R: Threads + Sync, S: Source, K: Sink, L: Ledger, W: TableWatcher>(
     resources: Resources<'_, R>,
     source: &mut S,

@@ -1,4 +1,4 @@
-//! The command `talk`: a session at a server, for lines that a person types or a file has.
+//! The command `talk`: sends lines that a person types or a file has to a server, and writes the replies.
 ghost use Rattle.std.specs.Prelude.{◌≡◌, ◌⊎◌, ◌<◌, ℕ, List, [], Option, OnErr, OnOk};
 ghost use Rattle.ps_grid.specs.Blanks.{IsBlankOf};
 ghost use Rattle.ps_peers.specs.Asking.{IsConversed, IsInterrupted};
@@ -16,9 +16,10 @@ use std::marker::Brand;
 use std::net::{Net, TcpStream};
 use std::sync::ledger::Ledger;
 
-/// Sends each line of `input` to the server at a port of this machine, and writes its replies, to the end of the input.
+/// Sends each line of `input` to the server at port `options.to` of this machine, to the end of the input, and writes
+/// the server's replies to `out`.
 ///
-/// Each reply is written whole before the next line is read. `watcher` observes.
+/// Each reply is written whole before the next line is sent. `watcher` sees each line and its outcome.
 ///
 /// # Errors
 ///

@@ -1,9 +1,10 @@
-//! Memory that isn't freed, since the program ends.
+//! Leaves memory unfreed when the program is about to end.
 
 use ps_sheet::Sheet;
 use std::mem;
 
-/// Leaves a sheet unfreed: the program ends next, and the system then takes all of its memory back at once.
+/// Takes a sheet and never frees its memory. The program ends next, and the system then takes all of its memory back at
+/// once.
 pub fn leave_unfreed(sheet: Sheet) {
     mem::forget(sheet);
 }

@@ -1,4 +1,4 @@
-//! Canonical texts: how replicas and files write contents, one text for each content.
+//! Canonical texts: how replicas and files write contents. Each content has exactly one canonical text.
 
 ghost use Rattle.std.specs.Prelude.{◌≡◌, ◌++◌, bytes_eq, codes, IfOk, IfErr, IfSome, MatchResult, Some};
 ghost use Rattle.std.specs.Fmt.{signed_decimal};
@@ -12,11 +12,11 @@ use itoa::Buffer;
 use ps_grid::Refusal;
 use std::alloc::Global;
 
-/// Returns the content that has these bytes as its canonical text; `None` if no content has.
+/// Returns the content whose canonical text is `bytes`; `None` if `bytes` isn't a canonical text.
 ///
 /// Fails only when out of memory.
 ///
-/// Cost: linear in the bytes. A text takes one allocation, and a formula one more than `Formula::read` says.
+/// Cost: linear in the bytes. A text takes one allocation. A formula takes one allocation more than `Formula::read`.
 pub fn read_canonical(alloc: Global, bytes: &[u8]) -> Result<Option<Content>, Refusal>
     ensures read { (c : Contents) → IsContent c → bytes.now ≡ canonical_text c
         → MatchResult result (λ found. found ≡ Some c) (λ e. e ≡ Memory) }

@@ -12,10 +12,13 @@ use ps_grid::{Refusal, Twin};
 use ps_value::{Label, SharedLabel};
 use std::alloc::Global;
 
-/// What people assign to a cell. Of contents of two kinds, the one whose variant is listed first is the lesser.
+/// What people assign to a cell.
+///
+/// Contents are ordered by kind first: `Blank` is less than any `Number`, and so on in the order of the variants. Two
+/// contents of one kind are ordered by number or by the bytes of their texts.
 #[derive(Drop)]
 pub enum Content {
-    /// Nothing; the cell shows nothing.
+    /// The empty content: the cell shows nothing.
     Blank,
     /// A whole number.
     Number(i64),
@@ -46,7 +49,7 @@ impl Content {
     ghost use Rattle.ps_content.specs.Content.{canonical_text, IsContent};
     ghost use Rattle.ps_content.specs.Order.{formula_in};
 
-    /// Returns the formula, if the content is one.
+    /// Returns the formula; `None` if the content isn't a formula.
     pub fn formula(&self) -> Option<&Formula>
         ensures { option_copied result ≡ formula_in self.now }
     {
@@ -56,7 +59,9 @@ impl Content {
         }
     }
 
-    /// Appends the canonical text of the content to `out`. Fails only when out of memory, and then `out` is as before.
+    /// Appends the canonical text of the content to `out`.
+    ///
+    /// Fails only when out of memory, and then `out` stays as it was.
     ///
     /// Cost: linear in the canonical text.
     pub fn canonical(&self, out: &mut Vec<u8>) -> Result<(), Refusal>

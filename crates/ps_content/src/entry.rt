@@ -15,22 +15,23 @@ use ps_grid::{Refusal, read_digits};
 use ps_value::{Label, SharedLabel};
 use std::alloc::Global;
 
-/// Returns the content that an entry stands for. The first line that fits decides:
+/// Returns the content that the entry `bytes` stands for. The first case that fits the entry decides:
 ///
 /// - longer than 512 bytes: fails with `TooLong`;
 /// - empty: `Blank`;
-/// - digits, perhaps after `+` or `-`, of a number that fits into an `i64`: that number;
-/// - beginning with `=` or `of:=`: that formula. Fails with `Formula` if it is none by the grammar, and with `TooLong`
-///   if its canonical text has more than 256 bytes;
-/// - `@tally`: `Tally`; `@choice`: `Choice`;
+/// - digits, perhaps after `+` or `-`, of a number that fits into an `i64`: the number;
+/// - beginning with `=` or `of:=`: the formula that the entry spells. Fails with `Formula` if the entry is no formula
+///   by the grammar, and with `TooLong` if the formula's canonical text has more than 256 bytes;
+/// - `@tally`: `Tally`;
+/// - `@choice`: `Choice`;
 /// - beginning with an apostrophe: the text after the apostrophe;
-/// - anything else: the entry as a text.
+/// - anything else: the whole entry as a text.
 ///
-/// A text fails with `Text` unless it is a `Label`: 1 to 64 bytes of UTF-8 without control characters.
+/// Fails with `Text` if a text isn't a `Label`: 1 to 64 bytes of UTF-8 without control characters.
 ///
-/// Only a formula or a text allocates, so only these can fail with `Memory`.
+/// Only a formula and a text allocate memory, so for any other entry the call can't fail with `Memory`.
 ///
-/// Cost: linear in the bytes. A text takes one allocation, and a formula one more than `Formula::read` says.
+/// Cost: linear in the bytes. A text takes one allocation. A formula takes one allocation more than `Formula::read`.
 pub fn read_entry(alloc: Global, bytes: &[u8]) -> Result<Content, Refusal>
     ensures { Reads (kind_of bytes.now) bytes.now result }
 {

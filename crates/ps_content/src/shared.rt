@@ -8,7 +8,7 @@ use std::alloc::Global;
 use std::marker::Model;
 use std::sync::Arc;
 
-/// A reference-counted formula, with any number of owners. A contract sees it as the tree of the formula.
+/// A reference-counted formula, with one or more owners. A contract sees a shared formula as the formula's tree.
 #[derive(Drop)]
 pub struct SharedFormula {
     formula: Arc<Formula>,
@@ -28,7 +28,9 @@ impl Model for SharedFormula {
 }
 
 impl SharedFormula {
-    /// Creates a shared formula with one owner. Fails only when out of memory.
+    /// Creates a shared formula with one owner.
+    ///
+    /// Fails only when out of memory.
     ///
     /// Cost: one allocation.
     pub fn new(alloc: Global, formula: Formula) -> Result<SharedFormula, Refusal>
@@ -39,7 +41,7 @@ impl SharedFormula {
         Ok(SharedFormula { formula })
     }
 
-    /// Returns the formula.
+    /// Returns a reference to the formula that the owners share.
     pub fn formula(&self) -> &Formula
         ensures { result.now ≡ self.now }
     {

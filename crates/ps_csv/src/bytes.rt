@@ -12,7 +12,7 @@ use std::alloc::Global;
 /// a comma.
 const BYTES_PER_CELL: usize = 640;
 
-/// The most bytes that an imported table may have: 68,157,440, which is 640 for each cell of the grid.
+/// The most bytes that an imported table may have: 68,157,440, which is 640 bytes for each cell of the grid.
 pub const LONGEST_TABLE: usize = BYTES_PER_CELL * CELLS;
 
 /// The bytes of the source, to its end. Fails with `Csv` as soon as there are more than `LONGEST_TABLE`.

@@ -28,17 +28,17 @@ use std::thread::Threads;
 pub struct Imported {
     /// The number of records.
     pub records: usize,
-    /// The most fields of a record.
+    /// The number of fields of the record that has the most; 0 for a table without records.
     pub fields: usize,
 }
 
 /// Imports a CSV table of entries into the sheet, and returns the table's size.
 ///
-/// Field j of record n is an entry for the cell in column j and row n, and an empty field leaves its cell as it is.
+/// Field j of record n is an entry for the cell in column j and row n. An empty field leaves its cell unchanged.
 /// Each record with a field that isn't empty becomes one edit. The source is read to its end, and all fields are
 /// checked, before anything is assigned.
 ///
-/// The program calls [`import_watched`] instead, whose watcher reports hints. This function is part of the public
+/// The program calls [`import_watched`] instead, with a watcher that reports hints. `import` is part of the public
 /// interface.
 ///
 /// # Errors
@@ -50,14 +50,14 @@ pub struct Imported {
 /// - The first field or record at fault in reading order: `Csv` for a record past the last row or a field past the last
 ///   column, the refusal of `read_entry`, or `ClockFull` if the cell's register has the last time, `LAST_TIME`.
 ///
-/// The contracts of `csv` don't exclude that its reader fails by itself, even over bytes in memory. That is `Csv` too,
-/// with the error as `reader_error`, which no other fault has.
+/// The contracts of `csv` don't exclude that the crate's own reader fails, even over bytes in memory. This failure is
+/// also returned as `Csv`. It alone has a `reader_error`, which is the reader's error.
 ///
-/// Instead of any of these, `Memory` is returned if allocation fails. Nothing is assigned if the import fails, with one
-/// exception: if allocation fails while the edits' deltas are made, the first `applied` records stay assigned.
+/// If allocation fails at any step, the import returns `Memory`. A failed import assigns nothing, with one exception:
+/// if allocation fails while the edits' deltas are made, the first `applied` records stay assigned.
 ///
 /// Cost: linear in the bytes of the source, plus that of one edit of all cells that are assigned, and that of copying
-/// the sheet's state. Memory for the bytes, and twice for the contents that they say.
+/// the sheet's state. It takes memory for the bytes, and twice for the contents that the bytes stand for.
 pub fn import<R: Threads + Sync, S: Source, L: Ledger>(
     rt: &R,
     alloc: Global,
@@ -70,12 +70,12 @@ pub fn import<R: Threads + Sync, S: Source, L: Ledger>(
     import_watched(rt, alloc, source, sheet, meter, &mut UnwatchedTable)
 }
 
-/// Imports a CSV table of entries into the sheet as [`import`] does, and shows a watcher what is read.
+/// Imports a CSV table of entries into the sheet as [`import`] does, and shows `watcher` each field when it is read.
 ///
-/// The watcher sees each field that isn't empty, up to and including the first that is refused. It also sees a record
-/// past the last row or with a field past the last column.
+/// The watcher sees each field that isn't empty, up to and including the first field that is refused. The watcher also
+/// sees the first record that is past the last row or has a field past the last column.
 ///
-/// Cost: that of [`import`], and the watcher's own.
+/// Cost: that of [`import`], and of the watcher's calls.
 pub fn import_watched<R: Threads + Sync, S: Source, L: Ledger, W: TableWatcher>(
     rt: &R,
     alloc: Global,

@@ -1,16 +1,17 @@
 //! CSV tables: imports a table's entries into a sheet, and exports what the cells of a rectangle show or hold.
 //!
-//! It is not a session: it knows no lines and no replies. The crate `csv` parses and writes the text of a table.
+//! This crate is not a session: it knows no lines and no replies. The crate `csv` parses and writes a table's text.
 //!
 //! Use the contracts of [`import`] and [`export`]:
 //!
 //! - After [`import`] returns Ok, the sheet's history has grown by one edit for each record with a field that isn't
 //!   empty, in order, and by nothing else.
-//! - It fails when out of memory, if reading the source fails, if the source has too many bytes, or with exactly the
-//!   first fault of the table in reading order. Nothing is assigned then, with one exception: if allocation fails while
-//!   the edits' deltas are made, the records before stay assigned, and the fault counts them.
+//! - [`import`] fails when out of memory, if reading the source fails, if the source has too many bytes, or with
+//!   exactly the table's first fault in reading order. A failed import assigns nothing, with one exception: if
+//!   allocation fails while the edits' deltas are made, the earlier records stay assigned, and the fault counts them.
 //! - An error of `csv`'s own reader is marked in the fault ([`ImportFault`]).
-//! - [`export`] writes what the cells show as `csv` writes it, or a beginning of that if the sink fails.
+//! - [`export`] writes the table that `csv` writes for the shown values. If the sink fails, only a beginning of this
+//!   text was written.
 //! - [`export_entries`] does the same for the entries, the canonical texts of what the cells hold.
 //!
 //! The table of `2,=[.A1]*3` and `"x,y",@tally` gives A1 the number 2, B1 the formula, A2 the text `x,y` and B2 a

@@ -19,7 +19,7 @@ use std::sync::ledger::Ledger;
 /// # Errors
 ///
 /// - `Memory` if allocation fails; nothing was written then.
-/// - `Device` if the sink fails; a beginning of the text was written then.
+/// - `Device` if the sink fails; a beginning of the text, perhaps none of it, was written then.
 ///
 /// Cost: linear in the cells of the rectangle and the bytes of the text, which is built in memory before it is written.
 pub fn export<G: Look, K: Sink>(

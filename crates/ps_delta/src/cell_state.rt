@@ -10,10 +10,10 @@ use ps_grid::{Refusal, Twin};
 use ps_lattice::{Choice, Join, Merge, Register, Tally};
 use std::alloc::Global;
 
-/// The state of a cell. All three parts are stored, whichever of them is shown.
+/// The state of a cell: a register, a counter and a set. All three are stored, whichever of them the cell shows.
 #[derive(Drop)]
 pub struct CellState {
-    /// The content, with the time and the replica of its assignment.
+    /// The register: the cell's content, with the time and the replica of its assignment.
     pub register: Register<Content>,
     /// The counter.
     pub tally: Tally,
@@ -34,7 +34,7 @@ impl CellState {
         }
     }
 
-    /// Creates the state with these three parts.
+    /// Creates the state that has this register, counter and set.
     pub fn from_parts(register: Register<Content>, tally: Tally, choice: Choice) -> CellState
         ensures register { result.register ≡ register }
         ensures tally { result.tally ≡ tally }
@@ -66,11 +66,11 @@ impl CellState {
 }
 
 impl CellState {
-    /// Returns the join of this state and another one.
+    /// Returns the join of this state and `other`: the joins of their registers, counters and sets.
     ///
     /// Refused only when out of memory.
     ///
-    /// Cost: linear in the counts and pairs of both states.
+    /// Cost: linear in the counts of both counters and the pairs of both sets.
     #[tactic(auto, unfolding(crate::specs::State::joined_cell))]
     #[inline(always)]
     pub fn joined(&self, alloc: Global, other: &CellState) -> Result<CellState, Refusal>
@@ -84,11 +84,12 @@ impl CellState {
         })
     }
 
-    /// Returns the part of `delta` that this state doesn't have yet, in each of register, counter and set.
+    /// Returns the part of `delta` that this state doesn't have yet: the new part of the register, of the counter and
+    /// of the set. The result is an empty state if nothing is new.
     ///
     /// Refused only when out of memory.
     ///
-    /// Cost: for each count and pair of `delta`, one search among those of this state.
+    /// Cost: one search in this state for each count of `delta`'s counter and each pair of its set.
     pub fn news(&self, alloc: Global, delta: &CellState) -> Result<CellState, Refusal>
         ensures ok { IfOk result (λ s. IsNewsOf joined_cell self.now delta.now s) }
         ensures memory { IfErr result (λ e. e ≡ Refusal.Memory) }

@@ -15,10 +15,10 @@ use ps_lattice::is_ascending;
 use std::alloc::Global;
 use std::marker::Model;
 
-/// One or more cells, ascending and distinct, each with a state that isn't empty.
+/// A delta: one or more cells, ascending and distinct, each with a state that isn't empty.
 ///
-/// It stands for the state in which all other cells are empty. A contract sees it as the list of the cells with their
-/// states.
+/// A delta stands for the state of a grid in which all other cells are empty. A contract sees a delta as the list of
+/// its cells with their states.
 pub struct Delta {
     cells: DeltaCells,
 }
@@ -39,11 +39,11 @@ impl Model for Delta {
 }
 
 impl Delta {
-    /// Returns the delta of these cells, and frees the spare capacity of the list.
+    /// Returns the delta of these cells with their states, and frees the spare capacity of the list.
     ///
     /// Returns `None` if there are no cells, if they aren't ascending and distinct, or if one has an empty state.
     ///
-    /// Refused only when out of memory, and never for one cell or where it would return `None`.
+    /// Refused only when out of memory. A list of one cell, or a list for which the result is `None`, is never refused.
     ///
     /// Cost: linear in the number of cells; one allocation, or none for one cell.
     pub fn new(alloc: Global, cells: Vec<(Cell, CellState)>) -> Result<Option<Delta>, Refusal>
@@ -85,11 +85,11 @@ impl Delta {
         }
     }
 
-    /// Returns the join of the deltas.
+    /// Returns the join of one or more deltas.
     ///
     /// Refused only when out of memory.
     ///
-    /// Cost: n log n for n cells in all deltas together, and for each of them one copy or one join of its state.
+    /// Cost: n log n for n cells in all deltas together, and for each of these cells one copy or one join of its state.
     pub fn joined(alloc: Global, deltas: &[Delta]) -> Result<Delta, Refusal>
         requires { 0 < length deltas.now }
         ensures joined { IfOk result (λ d. state_of d ≡ joined_history deltas.now) }
@@ -120,7 +120,7 @@ impl Delta {
         }))
     }
 
-    /// Returns the cells, ascending, with their states.
+    /// Returns the cells of the delta, ascending, with their states.
     pub fn parts(&self) -> &[(Cell, CellState)]
         ensures value { result.now ≡ self.now }
         ensures delta { IsDelta result.now }

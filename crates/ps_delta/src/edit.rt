@@ -1,4 +1,4 @@
-//! Edits, which people ask a sheet for, and changes: an edit or a delta from elsewhere.
+//! Edits, which people ask a sheet for, and changes. A change is an edit or a delta from elsewhere.
 
 ghost use Rattle.std.specs.Prelude.{◌≡◌};
 ghost use Rattle.std.specs.Option.{SomeIff};
@@ -9,14 +9,15 @@ use ps_grid::Cell;
 use ps_lattice::is_ascending;
 use std::marker::Model;
 
-/// What a person asks a sheet to do.
+/// An edit: what a person asks a sheet to do.
 ///
-/// The sheet refuses an amount or option out of range, and an edit of a counter or set that the cell doesn't show.
+/// The sheet refuses an edit whose amount or option is out of range. It also refuses an edit of a counter or a set that
+/// the cell doesn't show.
 #[derive(Drop)]
 pub enum Edit {
     /// Assigns a content to a cell.
     Set(Cell, Content),
-    /// Assigns contents to several cells.
+    /// Assigns contents to one or more cells at once.
     SetAll(Batch),
     /// Adds an amount, 1 to 1,000,000, to the counter of a cell whose content is `Tally`.
     Add(Cell, u64),
@@ -33,13 +34,14 @@ pub enum Edit {
 pub enum Change {
     /// An edit, for which the sheet makes a delta.
     Edit(Edit),
-    /// A delta made elsewhere. The sheet appends all of it to its history, or nothing if it is covered.
+    /// A delta made elsewhere. The sheet appends the whole delta to its history, or nothing if the delta is covered.
     Delta(Delta),
-    /// A delta made elsewhere. The sheet appends to its history only the part that it doesn't have yet.
+    /// A delta made elsewhere. The sheet appends to its history only the part of the delta that is new to the sheet.
     Merge(Delta),
 }
 
-/// At least one cell, ascending and distinct, each with the content to assign. A contract sees it as that list.
+/// One or more cells, ascending and distinct, each with the content to assign to the cell. A contract sees a batch as
+/// the list of its cells with their contents.
 #[derive(Drop)]
 pub struct Batch {
     cells: Vec<(Cell, Content)>,
@@ -65,7 +67,9 @@ impl Model for Batch {
 impl Batch {
     ghost use Rattle.ps_delta.specs.Batches.{IsBatch};
 
-    /// Returns the batch of these cells; `None` if there is no cell, or if they aren't ascending and distinct.
+    /// Returns the batch of these cells with their contents.
+    ///
+    /// Returns `None` if the list is empty, or if its cells aren't ascending and distinct.
     ///
     /// Cost: linear in the number of cells.
     pub fn new(cells: Vec<(Cell, Content)>) -> Option<Batch>
@@ -77,7 +81,7 @@ impl Batch {
         Some(Batch { cells })
     }
 
-    /// Returns the cells with their contents.
+    /// Returns the cells of the batch, ascending, each with the content to assign to the cell.
     pub fn into_cells(self) -> Vec<(Cell, Content)>
         ensures cells { result.items ≡ self }
         ensures batch { IsBatch self }

@@ -20,7 +20,8 @@ impl Grid {
     ///
     /// Refused only when out of memory.
     ///
-    /// Cost: linear in the blocks of the grid, and 64 steps for each block with states.
+    /// Cost: linear in the blocks of the grid. A block with states takes 64 steps, one for each of its cells, and a
+    /// copy of each state that isn't empty.
     pub fn entries(&self, alloc: Global) -> Result<Vec<(Cell, CellState)>, Refusal>
         ensures entries { IfOk result (λ entries. AreEntries entries.items) }
         ensures same { IfOk result (λ entries. state_of entries.items ≡ state_at self.now) }

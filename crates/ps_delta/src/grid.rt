@@ -26,7 +26,8 @@ use std::marker::Model;
 /// The number of blocks of the grid.
 const BLOCKS: usize = CELLS / BLOCK;
 
-/// The state of each cell of the grid. A contract sees it as a list of blocks, and names a cell's state by `state_at`.
+/// The state of each cell of the grid. A contract sees a grid as a list of blocks of 64 cells, and writes `state_at`
+/// for the function from a cell to its state.
 #[derive(Drop)]
 pub struct Grid {
     // The cells by their index, 64 a block; a block has no states until a change first names one of its cells.
@@ -52,7 +53,7 @@ impl Model for Grid {
 }
 
 impl Grid {
-    /// Creates a grid in which each cell is empty.
+    /// Creates a grid in which each cell has the empty state.
     ///
     /// Refused only when out of memory.
     ///
@@ -69,7 +70,7 @@ impl Grid {
         Ok(Grid { blocks, empty })
     }
 
-    /// Returns the state of the cell.
+    /// Returns the state of the cell, which is empty if nobody has ever changed the cell.
     pub fn at(&self, cell: Cell) -> &CellState
         ensures value { result.now ≡ state_at self.now cell }
         ensures in_grid { IsInGrid (state_at self.now) }
@@ -88,12 +89,12 @@ impl Grid {
 
     /// Joins the delta into the grid.
     ///
-    /// It is for a caller that has a grid and no sheet. A sheet calls the two steps `changes_by` and `exchange` itself,
-    /// so that it can undo a change that is cancelled.
+    /// This function is for callers that have a grid and no sheet. A sheet calls `changes_by` and then `exchange`
+    /// instead, so that the sheet can undo a change that is cancelled.
     ///
     /// Refused only when out of memory, and then no cell's state is changed.
     ///
-    /// Cost: linear in the counts and pairs that the delta's cells have in the delta and in the grid.
+    /// Cost: as for `changes_by`, and memory for the list of the changed cells.
     pub fn join(&mut self, alloc: Global, delta: &Delta) -> Result<(), Refusal>
         ensures ok { OnOk result (state_at self.new ≡ joined_state (state_at self.old) (state_of delta.now)) }
         ensures err { OnErr result (state_at self.new ≡ state_at self.old) }
@@ -105,9 +106,9 @@ impl Grid {
         Ok(())
     }
 
-    /// Returns whether the delta is covered: joining it changes nothing.
+    /// Returns whether the delta is covered: joining the delta into the grid would change nothing.
     ///
-    /// Cost: for each cell of the delta its counts and pairs, each with a search among those that the grid has for the
+    /// Cost: for each count and each pair of a cell in the delta, one search in the state that the grid has for the
     /// cell; no memory.
     pub fn covers(&self, delta: &Delta) -> bool
         ensures { IsTrue result ↔ IsBelow (state_of delta.now) (state_at self.now) }
@@ -121,9 +122,10 @@ impl Grid {
         true
     }
 
-    /// Lists in `touched` the cells whose state a join of the delta would change, even if they would show the same.
+    /// Clears `touched` and fills it with the cells whose state a join of the delta would change. A cell is listed even
+    /// if it would show the same value as before.
     ///
-    /// It is for a caller that asks before a join. A sheet gets these cells from `changes_by`.
+    /// This function is for a caller that asks before a join. A sheet gets the same cells from `changes_by`.
     ///
     /// Cost: as for `covers`.
     pub fn touched(&self, delta: &Delta, touched: &mut Touched)
@@ -141,11 +143,11 @@ impl Grid {
     /// Returns the part of the delta that the grid doesn't have yet: the least delta that changes the grid as `delta`
     /// does.
     ///
-    /// Returns `None` if the delta is covered.
+    /// Returns `None` if the delta is covered, since the grid then has all of it.
     ///
     /// Refused only when out of memory, and never if the delta is covered.
     ///
-    /// Cost: as for `covers`, and memory for the part that is returned.
+    /// Cost: as for `covers`, and memory for the result.
     pub fn news(&self, alloc: Global, delta: &Delta) -> Result<Option<Delta>, Refusal>
         ensures news { IfOk result (λ o. IfSome o (λ d.
             IsNewsOf joined_state (state_at self.now) (state_of delta.now) (state_of d))) }
@@ -204,15 +206,16 @@ impl Grid {
         Ok(cells)
     }
 
-    /// Lists the cells that a join of the delta would change, ascending, each with the state that it would have.
+    /// Clears `list` and fills it with the cells that a join of the delta would change, ascending, each with the state
+    /// that the cell would have after the join.
     ///
-    /// It clears `list` first. Afterwards the grid has room for these cells, so `exchange` takes no memory. A list that
-    /// is reused grows only if a delta has more cells than all deltas before.
+    /// No cell's state changes. The grid gets room for the delta's cells, so a later `exchange` takes no memory. A list
+    /// that is reused grows only if `delta` has more cells than the delta of any earlier call.
     ///
-    /// Refused only when out of memory, and then the list may have some of the cells.
+    /// Refused only when out of memory, and then `list` may have only some of the cells.
     ///
-    /// Cost: linear in the counts and pairs that the delta's cells have in the delta and in the grid, and 64 states for
-    /// each block that had none.
+    /// Cost: linear in the counts and pairs that the delta's cells have in the delta and in the grid. A block of the
+    /// grid that has no states yet gets its 64 states.
     #[inline(always)]
     pub fn changes_by(
         &mut self,
@@ -239,10 +242,10 @@ impl Grid {
         Ok(())
     }
 
-    /// Swaps, for each cell of the list, the state in the grid with the state in the list. A second call undoes the
-    /// first.
+    /// Swaps, for each cell of the list, the state in the grid with the state in the list. A second call with the same
+    /// list undoes the first.
     ///
-    /// Cost: linear in the number of cells; no memory.
+    /// Cost: linear in the number of listed cells; no memory.
     pub fn exchange(&mut self, cells: &mut [(Cell, CellState)])
         requires ready { HasRoomFor self.old cells.old }
         requires once { IsStrictlyIncreasing (cells_of cells.old) }

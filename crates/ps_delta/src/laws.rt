@@ -1,7 +1,7 @@
 //! Laws of joins of states and of histories, which are lists of deltas. Each function does nothing: its contract is the
 //! law.
 //!
-//! They are part of the public interface. The program calls only `grids_are_shared`.
+//! The functions are part of the public interface. The program itself calls only `grids_are_shared`.
 
 ghost use Rattle.std.specs.Thread.{IsSync};
 ghost use Rattle.ps_delta.specs.Laws.{CoveredChangesNothing, GroupsJoin, HistoryIsASet, NewsIsLeast, StatesJoin};
@@ -11,12 +11,14 @@ use crate::block::Block;
 use crate::cell_state::CellState;
 use crate::grid::Grid;
 
-/// States that the join of states is commutative, associative and idempotent, and that the empty state adds nothing.
+/// States that the join of states is commutative, associative and idempotent, and that the join of the empty state with
+/// any state `s` is `s`.
 pub fn states_join()
     ensures { StatesJoin }
 {}
 
-/// States that two histories with the same deltas join to the same state, whatever their order and repeats.
+/// States that two histories with the same deltas join to the same state, in whatever order and however often each
+/// history has the deltas.
 pub fn history_is_a_set()
     ensures { HistoryIsASet }
 {}
@@ -32,8 +34,8 @@ pub fn covered_changes_nothing()
     ensures { CoveredChangesNothing }
 {}
 
-/// States that a delta has at most one news: the least delta that does to the state what the whole delta does. The news
-/// is part of the delta, and repeats nothing that the state has.
+/// States that a delta's news is part of the delta, repeats nothing that the state has, and is unique. The news is the
+/// least delta that changes the state as the whole delta does.
 pub fn news_is_least()
     ensures { NewsIsLeast }
 {}

@@ -5,24 +5,25 @@
 //! an option.
 //!
 //! A delta names cells in order, each with a state that isn't empty. The grid has a state for each cell. Deltas may be
-//! joined in any order, in any groups and repeatedly: only the set of joined deltas matters. A delta is *covered* if
-//! joining it changes nothing.
+//! joined in any order, in any groups and repeatedly: only the set of joined deltas matters. A delta is *covered* by a
+//! grid if joining the delta into the grid changes nothing.
 //!
 //! This crate evaluates nothing, makes no edits and stores no history.
 //!
 //! The contract to use: after `Grid::join` the grid's state is `joined_state` of its old state and the delta's. After a
-//! refusal it is exactly the old state. `Grid::covers` says whether that join would change nothing, and `Grid::touched`
-//! which cells it would change. Two grids join by the laws of `Join`. The functions of `laws.rt` say that the joined
-//! history depends only on the set of deltas.
+//! refused `Grid::join` the grid's state is exactly its old state. `Grid::covers` says whether a join would change
+//! nothing, and `Grid::touched` which cells a join would change. Two grids join by the laws of `Join`. The functions of
+//! `laws.rt` state that the joined state of a history depends only on the set of its deltas.
 //!
 //! Say `A1` holds 3 with the stamp (time 1, replica 1). A delta arrives that gives `A1` the content 4 with the same
-//! stamp, and adds 5 by replica 2 to its counter. `Grid::touched` lists `A1`. After `Grid::join`, `A1` holds 4, the
-//! greater content, and the counter beside it. The same delta again is covered, and changes nothing.
+//! stamp, and adds 5 by replica 2 to the counter of `A1`. `Grid::touched` lists `A1`. After `Grid::join`, `A1` has the
+//! content 4, the greater one, and a counter with the added 5. The same delta again is covered, and changes nothing.
 //!
 //! Cost: joining or testing a delta depends on its cells and the size of their states, but not on the size of the grid.
 //! A fresh grid has only a table of blocks; a block gets its 64 states when a change first names one of its cells.
-//! Counts and pairs lie in lists outside the cell's state, except small counts of one replica alone. Copies of a state
-//! share these lists, as they share formulas. Copies of a delta of several cells share its list of cells.
+//! Counts and pairs lie in lists outside the cell's state, except the small counts of a counter that only one replica
+//! has changed. Copies of a state share these lists and the formula. Copies of a delta of several cells share its list
+//! of cells.
 #![tactic(auto)]
 
 mod block;

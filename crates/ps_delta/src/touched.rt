@@ -9,10 +9,11 @@ use ps_grid::{CELLS, Cell, Refusal};
 use std::alloc::Global;
 use std::marker::Model;
 
-/// The cells that a join would change, ascending. A contract sees it as the list of the cells.
+/// A list of the cells whose state a join would change, ascending. A contract sees a `Touched` as the list of its
+/// cells.
 ///
-/// `Grid::touched` fills it. It has room for each cell of the grid, so that this takes no memory. A sheet uses
-/// `Grid::changes_by` instead, which lists the same cells.
+/// `Grid::touched` fills the list. The list has room for every cell of the grid, so `Grid::touched` takes no memory. A
+/// sheet calls `Grid::changes_by` instead, which lists the same cells with their states.
 #[derive(Drop)]
 pub struct Touched {
     cells: Vec<Cell>,
@@ -35,7 +36,7 @@ impl Touched {
     ///
     /// Refused only when out of memory.
     ///
-    /// Cost: four bytes for each cell of the grid.
+    /// Cost: one allocation, of four bytes for each cell of the grid.
     pub fn new(alloc: Global) -> Result<Touched, Refusal>
         ensures empty { IfOk result (λ t. t ≡ []) }
         ensures memory { IfErr result (λ e. e ≡ Refusal.Memory) }
@@ -44,7 +45,7 @@ impl Touched {
         Ok(Touched { cells })
     }
 
-    /// Returns the cells, ascending.
+    /// Returns the listed cells, ascending.
     pub fn cells(&self) -> &[Cell]
         ensures value { result.now ≡ self.now }
         ensures in_grid { All (λ c. c < CELLS) result.now }

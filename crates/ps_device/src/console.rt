@@ -1,7 +1,7 @@
 //! A buffered sink over a writer: bytes wait in memory until a flush, or until the buffer is full.
 //!
-//! A session flushes its sink before each read. So a batch of lines costs one write for each piece of input that is
-//! read, and a peer that waits for a reply gets it.
+//! A session flushes its sink before each read. So the replies to all lines of one read can go out in one write, and no
+//! reply stays in the buffer while a peer waits for it.
 ghost use Rattle.std.specs.Prelude.{◌≡◌, ◌<◌, ◌≤◌, ◌+◌, [], IfErr, IfOk, IsErr, IsOk, IsTrue, OnOk, drop, false};
 ghost use Rattle.std.specs.Prelude.{is_err, length, vec_capacity, vec_len};
 ghost use Rattle.std.specs.Io.KnownBytes.{Keeps, WriteAppends, append_known};
@@ -17,10 +17,10 @@ use std::alloc::Global;
 use std::io::Write;
 use std::sync::ledger::{Blank, Ledger};
 
-/// A buffered sink over a writer: bytes wait in it until a flush, or until the buffer is full.
+/// A buffered sink over a writer: bytes wait in the buffer until a flush, or until the buffer is full.
 ///
-/// The bytes put are those that the writer was given, in order and whole, and then those that wait. After a failure
-/// nothing more is written, and every further call fails. A flush flushes the writer too, which no clause shows.
+/// The writer gets the bytes put in order and without a gap, and the last of them may still wait. After a failure the
+/// sink writes nothing more, and every further call fails. A flush also flushes the writer, but no clause shows this.
 #[derive(Drop)]
 pub struct ConsoleOutput<W: Write + Drop, L: Ledger> {
     /// the writer, and the count of all failures
@@ -39,9 +39,9 @@ pub struct ConsoleOutput<W: Write + Drop, L: Ledger> {
 impl<W: Write + Drop, L: Ledger> ConsoleOutput<W, L> {
     ghost use Rattle.ps_device.specs.Writers.{console_contents, console_waiting, console_writer, has_failed};
 
-    /// Creates an output over this writer, with a buffer of `PIECE_BYTES` bytes. Refused only when out of memory.
+    /// Creates a sink over this writer, with a buffer of `PIECE_BYTES` bytes. Refused only when out of memory.
     ///
-    /// `blank` opens the ledger in which contracts count the failures.
+    /// `blank` is the right to open the ledger `L`, in which contracts count the failed calls.
     ///
     /// Cost: one allocation.
     pub fn new(alloc: Global, writer: W, blank: Blank) -> Result<ConsoleOutput<W, L>, Refusal>
@@ -128,7 +128,7 @@ impl<W: Write + Drop, L: Ledger> Sink for ConsoleOutput<W, L> {
     ///
     /// Writes the buffer out first if it is full.
     ///
-    /// Cost: linear in the bytes taken. Only a full buffer costs calls of the writer.
+    /// Cost: linear in the bytes taken. The writer is called only when the buffer is full.
     #[inline]
     fn put(&mut self, piece: &[u8]) -> Result<usize, Failed>
         ensures within { IfOk result (λ count. count ≤ length piece.now) }

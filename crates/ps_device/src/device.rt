@@ -3,15 +3,14 @@ ghost use Rattle.std.specs.Prelude.{◌≡◌, ℕ, ◌+◌, ◌<◌, ◌≤◌,
 ghost use Rattle.std.specs.Io.KnownBytes.{Keeps, ReadConsumes, WriteAppends};
 ghost use Rattle.ps_device.specs.Device.{failed_take, failed_put, failed_flush, HoldsBack, Sends};
 
-/// The error of every call of a [`Source`] or a [`Sink`]. It doesn't say why the call failed.
+/// The error that a failed call of a [`Source`] or a [`Sink`] returns. It doesn't say why the call failed.
 #[derive(Clone, Copy, Debug, PartialEq, Eq)]
 pub struct Failed;
 
 /// Where bytes come from: standard input, a file, a connection.
 ///
-/// A call of [`Source::take`] fails if it returns an error. If it returns 0 though its `piece` isn't empty, the input
-/// has ended. Contracts see the bytes still to come, how many calls have failed, and a bound on how many more calls
-/// return bytes.
+/// A call of [`Source::take`] has failed if it returned an error. Contracts see the bytes still to come, how many calls
+/// have failed, and a bound on how many more calls return bytes.
 pub trait Source {
     /// The bytes still to come; `None` if the source doesn't show them to contracts.
     ghost remaining: { Self → Option (List ℕ) };
@@ -19,10 +18,13 @@ pub trait Source {
     /// How many calls failed so far.
     ghost failures: { Self → ℕ };
 
-    /// A bound on how many more calls return bytes. It never rises, so a loop of reads ends.
+    /// A bound on how many more calls return bytes. The bound falls with each of these calls and never rises, so a loop
+    /// of reads ends.
     ghost left: { Self → ℕ };
 
-    /// Reads the next bytes into the front of `piece`, and returns how many.
+    /// Reads the next bytes into the front of `piece`, and returns how many bytes it read.
+    ///
+    /// A 0 means that the input has ended, unless `piece` is empty.
     ///
     /// Cost: linear in the bytes read, besides the time of the device.
     fn take(&mut self, piece: &mut [u8]) -> Result<usize, Failed>
@@ -35,10 +37,11 @@ pub trait Source {
 
 /// Where bytes go: memory, standard output, a file, a connection.
 ///
-/// A call fails if it returns an error. A call of [`Sink::put`] also fails if it takes no byte though its `piece` isn't
-/// empty. Contracts see the bytes put so far, which of them still wait for a flush, and how many calls have failed.
+/// A call has failed if it returned an error. A call of [`Sink::put`] has also failed if it took no byte of a `piece`
+/// that isn't empty. Contracts see the bytes put so far, which of them still wait to be sent, and how many calls have
+/// failed.
 pub trait Sink {
-    /// The bytes put so far, the waiting ones last; `None` if the sink doesn't show them to contracts.
+    /// The bytes put so far, with the waiting bytes last; `None` if the sink doesn't show them to contracts.
     ghost contents: { Self → Option (List ℕ) };
 
     /// The bytes that were put and wait for a flush.
@@ -47,10 +50,10 @@ pub trait Sink {
     /// How many calls failed so far.
     ghost failures: { Self → ℕ };
 
-    /// That the sink never sends a byte before a flush: every byte put waits for one.
+    /// Whether the sink sends no byte before a flush, so that every byte put waits for a flush.
     ghost holds_back: { Type 0 };
 
-    /// Takes bytes from the front of `piece`, and returns how many.
+    /// Takes bytes from the front of `piece`, and returns how many it took, which may be fewer than all.
     ///
     /// Cost: linear in the bytes taken, besides the time of the device.
     fn put(&mut self, piece: &[u8]) -> Result<usize, Failed>
@@ -60,7 +63,7 @@ pub trait Sink {
         ensures held { holds_back
             → HoldsBack (contents self.old) (contents self.new) (waiting self.old) (waiting self.new) };
 
-    /// Sends all bytes that wait. Even if that fails, the bytes put so far (`contents`) stay the same.
+    /// Sends all bytes that wait. Even if the call fails, the bytes put so far (`contents`) stay the same.
     ///
     /// Cost: linear in the bytes that wait, besides the time of the device.
     fn flush(&mut self) -> Result<(), Failed>
@@ -69,7 +72,7 @@ pub trait Sink {
         ensures counted { failures self.new ≡ failures self.old + failed_flush result };
 }
 
-/// Puts all of these bytes on the sink. If the sink fails, only the bytes before its failure have been put.
+/// Puts all of these bytes on the sink. If the sink fails, only a beginning of the bytes was put, or none of them.
 ///
 /// Cost: linear in the bytes, in as many calls as the sink needs.
 #[inline]
@@ -95,9 +98,10 @@ pub fn put_all<K: Sink>(sink: &mut K, bytes: &[u8]) -> Result<(), Failed>
     Ok(())
 }
 
-/// Sends all bytes that wait, by one call of [`Sink::flush`].
+/// Sends all bytes that wait in the sink, by one call of [`Sink::flush`]. Fails if the flush fails.
 ///
-/// Its clauses state the count of failures as those of [`put_all`] do: apart for Ok and for an error.
+/// Only the contract differs from that of `flush`: one clause states the count of failures after Ok, another one after
+/// an error, as in [`put_all`].
 pub fn hand_on<K: Sink>(sink: &mut K) -> Result<(), Failed>
     ensures same { Keeps (K.contents sink.old) (K.contents sink.new) }
     ensures flushed { OnOk result (K.waiting sink.new ≡ []) }

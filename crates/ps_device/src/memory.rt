@@ -17,7 +17,9 @@ pub struct MemorySink<L: Ledger> {
 }
 
 impl<L: Ledger> MemorySink<L> {
-    /// Creates an empty sink, which takes no memory. `blank` opens the ledger in which contracts count the failures.
+    /// Creates an empty sink, without an allocation.
+    ///
+    /// `blank` is the right to open the ledger `L`, in which contracts count the failed calls.
     pub fn new(alloc: Global, blank: Blank) -> MemorySink<L>
         requires { IsBlankOf blank L.name L.parts }
         ensures empty { result.bytes.items ≡ [] }

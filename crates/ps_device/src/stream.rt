@@ -18,9 +18,9 @@ pub struct Reading<R: Read + Drop, L: Ledger> {
 }
 
 impl<R: Read + Drop, L: Ledger> Reading<R, L> {
-    /// Creates a source over this reader. It takes no memory, and fails for good after 2^64 - 1 reads.
+    /// Creates a source over this reader, without an allocation. After 2^64 - 1 reads, all further calls fail.
     ///
-    /// `blank` opens the ledger in which contracts count the failures.
+    /// `blank` is the right to open the ledger `L`, in which contracts count the failed calls.
     pub fn new(reader: R, blank: Blank) -> Reading<R, L>
         requires { IsBlankOf blank L.name L.parts }
         ensures calm { ⟦<Reading<R, L> as Source>⟧.failures result ≡ 0 }
@@ -68,9 +68,9 @@ pub struct Writing<W: Write + Drop, L: Ledger> {
 }
 
 impl<W: Write + Drop, L: Ledger> Writing<W, L> {
-    /// Creates a sink over this writer. It takes no memory, and fails for good after 2^64 - 1 writes and flushes.
+    /// Creates a sink over this writer, without an allocation. After 2^64 - 1 writes and flushes, any more fail.
     ///
-    /// `blank` opens the ledger in which contracts count the failures.
+    /// `blank` is the right to open the ledger `L`, in which contracts count the failed calls.
     pub fn new(writer: W, blank: Blank) -> Writing<W, L>
         requires { IsBlankOf blank L.name L.parts }
         ensures calm { ⟦<Writing<W, L> as Sink>⟧.failures result ≡ 0 }

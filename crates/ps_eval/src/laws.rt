@@ -2,12 +2,12 @@
 
 ghost use Rattle.ps_eval.specs.Laws.{CycleComesFromReferences, DependsOnReferencesAlone};
 
-/// States that a formula has the same value wherever the cells that it refers to have the same values.
+/// States that the value of a formula depends only on the values of the cells that the formula refers to.
 pub fn depends_on_references_alone()
     ensures { DependsOnReferencesAlone }
 {}
 
-/// States that a formula has the fault of a cycle only where a cell that it refers to shows that fault.
+/// States that a formula has the value `Fault::Cycle` only if a cell that the formula refers to shows `Fault::Cycle`.
 pub fn cycle_comes_from_references()
     ensures { CycleComesFromReferences }
 {}

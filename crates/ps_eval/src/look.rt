@@ -13,7 +13,7 @@ use ps_value::{Operand, Value};
 pub trait Look {
     ghost use Rattle.ps_value.specs.declared.value.Value.{Value as CellValue};
 
-    /// What each cell shows.
+    /// The value that each cell shows.
     ghost value_at: { Self → ℕ → CellValue };
 
     /// Returns the value that a cell shows.
@@ -23,12 +23,12 @@ pub trait Look {
     /// Returns the part of the cell's value that evaluation needs: a number, a fault, or only that the value is a text
     /// or nothing.
     ///
-    /// A set of options counts as the number of chosen options.
+    /// For a cell that shows a set of options, the number is how many options are chosen.
     fn operand(&self, cell: Cell) -> Operand
         ensures { result ≡ operand_of (value_at self.now cell) };
 
-    /// Returns the summary of the numbers and faults that the cells of a range show. It calls `operand` for each cell,
-    /// row by row.
+    /// Returns the summary of the numbers and faults that the cells of a range show. Calls `operand` for each cell, row
+    /// by row.
     ///
     /// Cost: one call for each cell of the range.
     fn summary_by_cells(&self, rect: Rect) -> Summary
@@ -41,9 +41,10 @@ pub trait Look {
         summary
     }
 
-    /// Returns the same as `summary_by_cells`, which it calls by default. An implementation may have a faster way.
+    /// Returns the same summary as `summary_by_cells`. The default body calls `summary_by_cells`; an implementation may
+    /// have a faster body.
     ///
-    /// Cost: linear in the cells of the range, by default.
+    /// Cost: for the default body, linear in the cells of the range.
     fn summary(&self, rect: Rect) -> Summary
         ensures { Summarizes (range_items (value_at self.now) rect) result }
     {

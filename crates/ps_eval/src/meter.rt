@@ -9,7 +9,8 @@ use std::sync::ledger::{Blank, Ledger};
 
 /// A count of evaluations that only contracts see. It takes no bytes and has no greatest value.
 ///
-/// A meter counts only real evaluations: `eval` and `eval_number` add one each, and `add` adds another meter's count.
+/// A meter counts nothing but evaluations: each call of `eval` or `eval_number` adds one, and `add` adds the count of
+/// other meters. The type `L` names the count.
 pub struct Meter<L: Ledger> {
     ticks: GhostCount<L>,
 }
@@ -22,7 +23,8 @@ impl<L: Ledger> Model for Meter<L> {
     ghost view = { λ m. m.ticks };
 }
 
-/// The count of one or several meters that ended. `Meter::finish` creates it; one thread may send it to another.
+/// The number of evaluations that one or several meters had counted when they ended. `Meter::finish` creates a
+/// `Counted`, which one thread may send to another.
 pub struct Counted {
     ticks: u64,
 }
@@ -46,7 +48,8 @@ impl<L: Ledger> Meter<L> {
         }
     }
 
-    /// Ends the meter and returns its count. The caller passes the count as `ticks`, since a meter stores no number.
+    /// Ends the meter and returns its count. The caller passes the same count as `ticks`, since a meter stores no
+    /// number.
     pub fn finish(self, ticks: u64) -> Counted
         requires { ticks ≡ self }
         ensures { result ≡ self }
@@ -55,13 +58,14 @@ impl<L: Ledger> Meter<L> {
         Counted { ticks }
     }
 
-    /// Ends the meter where nobody needs its count: at the top of a program, which made it.
+    /// Ends the meter and drops its count. The function that created a meter calls `end` once nothing needs the count
+    /// any more.
     pub fn end(self) {
         let Meter { ticks } = self;
         drop(ticks);
     }
 
-    /// Adds the count of other meters that ended, such as those of workers.
+    /// Adds to this meter the count of other meters that ended, for example of worker threads.
     pub fn add(&mut self, counted: Counted)
         ensures { self.new ≡ self.old + counted }
     {
@@ -78,7 +82,7 @@ impl<L: Ledger> Meter<L> {
 }
 
 impl Counted {
-    /// Returns the sum of the two counts.
+    /// Returns the sum of this count and `other`.
     pub fn with(self, other: Counted) -> Counted
         requires { self + other < 2 ^ 64 }
         ensures { result ≡ self + other }

@@ -1,4 +1,4 @@
-//! What SUM, MIN, MAX and COUNT need to know of some items, which are numbers and faults.
+//! What SUM, MIN, MAX and COUNT need to know of a list of items, each a number or a fault.
 
 ghost use Rattle.std.specs.Prelude.{◌≡◌, ◌↔◌, ◌+◌, ◌*◌, ◌^◌, ◌<◌, ◌≤◌, ◌<ℤ◌, List, [], ◌∷◌, ◌++◌, unsigned_abs};
 ghost use Rattle.std.specs.Prelude.{is_some, IsTrue, IsFalse};
@@ -6,10 +6,10 @@ ghost use Rattle.ps_eval.specs.Number.{Number};
 
 use ps_value::{Fault, Operand};
 
-/// A summary of a list of items, which are numbers and faults. It has the count of the numbers, their exact sum, the
-/// least and the greatest, and the first fault.
+/// A summary of a list of items, each a number or a fault. The summary has the count of the numbers, their exact sum,
+/// the least and the greatest number, and the first fault.
 ///
-/// In contracts, `Summarizes items summary` says which items a summary has taken.
+/// In contracts, `Summarizes items summary` says that `summary` is the summary of the list `items`.
 #[derive(Drop)]
 pub struct Summary {
     /// the sum of the numbers, first since it is aligned to sixteen bytes
@@ -68,7 +68,8 @@ impl Summary {
         self.fault = self.fault.or(Some(fault));
     }
 
-    /// Adds the item of one cell: its number or its fault. An empty cell and a text add nothing.
+    /// Adds the item of one cell: the number or the fault that it shows. A cell that is empty or shows a text adds
+    /// nothing.
     #[inline(always)]
     pub fn take_cell(&mut self, operand: Operand)
         requires { numbers_taken self.old < 2 ^ 60 }
@@ -84,7 +85,8 @@ impl Summary {
         }
     }
 
-    /// Appends the items of `other` to those of this summary. If both have a fault, this one's counts as the first.
+    /// Appends the items of `other` to the items of this summary. If both summaries have a fault, this summary's fault
+    /// stays the first.
     #[inline]
     pub fn join(&mut self, other: &Summary)
         requires room { numbers_taken self.old < 2 ^ 60 }
@@ -126,9 +128,10 @@ impl Summary {
         self.sum -= i128::from(number);
     }
 
-    /// Updates the summary for one cell of it that showed `old` and now shows `new`. Returns whether it could.
+    /// Replaces the item of one summarized cell, which showed `old` and now shows `new`, and returns true.
     ///
-    /// It returns false, and changes nothing, if an item is a fault, or if `old` is the least or the greatest number.
+    /// Returns false and leaves the summary unchanged if one of its items is a fault, or if `old` is its least or its
+    /// greatest number. The caller must then drop the summary, which still has the item of `old`.
     #[inline]
     pub fn exchange(&mut self, old: Operand, new: Operand) -> bool
         requires among { (front : List Number) × (back : List Number)
@@ -156,7 +159,7 @@ impl Summary {
         true
     }
 
-    /// Returns whether some item is a fault.
+    /// Returns whether at least one of the summarized items is a fault.
     #[inline]
     pub fn has_fault(&self) -> bool
         ensures { (items : List Number) → Summarizes items self.now → result ≡ is_some (first_fault items) }

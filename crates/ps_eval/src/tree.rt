@@ -22,9 +22,10 @@ use ps_tokens::Function;
 use ps_value::{Fault, Operand, Value};
 use std::sync::ledger::Ledger;
 
-/// Returns the value of a formula where each cell shows what `look` says. The meter counts one evaluation.
+/// Returns the value of the formula, where each cell shows the value that `look` returns for the cell.
 ///
-/// It takes no memory. The sheet calls `eval_number` instead, whose type excludes a text, options and nothing.
+/// The meter counts one evaluation. The evaluation takes no memory. The sheet calls `eval_number` instead, whose result
+/// type has only numbers and faults, and no text, options or nothing.
 ///
 /// Cost: linear in the nodes of the tree and the cells of its ranges.
 pub fn eval<K: Look, L: Ledger>(formula: &Formula, look: &K, meter: &mut Meter<L>) -> Value
@@ -37,9 +38,9 @@ pub fn eval<K: Look, L: Ledger>(formula: &Formula, look: &K, meter: &mut Meter<L
     }
 }
 
-/// Returns the number of a formula where each cell shows what `look` says, or the fault that the formula shows.
+/// Returns the number or fault that is the value of the formula, where each cell shows the value that `look` returns.
 ///
-/// The meter counts one evaluation. It takes no memory.
+/// The meter counts one evaluation. The evaluation takes no memory.
 ///
 /// Cost: linear in the nodes of the tree and the cells of its ranges.
 pub fn eval_number<K: Look, L: Ledger>(

@@ -12,7 +12,8 @@ pub enum Sign {
     Minus,
 }
 
-/// An expression. In contracts, `tree_of` gives its `Tree`, which has the same cases without the boxes.
+/// An expression of a formula, as a tree. Contracts use `tree_of` of an expression: a `Tree`, which has the same cases
+/// without the boxes.
 #[cycle(tree)]
 #[derive(Drop)]
 pub enum Expr {
@@ -26,7 +27,7 @@ pub enum Expr {
     Infix(Operator, Box<Operands>),
     /// An expression in parentheses.
     Group(Box<Expr>),
-    /// A function and its arguments, if any.
+    /// A call of a function with these arguments, from left to right. `TRUE` and `FALSE` have none.
     Call(Function, Vec<Argument>),
 }
 
@@ -44,8 +45,8 @@ pub struct Operands {
 #[cycle(tree)]
 #[derive(Drop)]
 pub enum Argument {
-    /// A single value. In SUM, MIN, MAX and COUNT, a lone reference counts as a range of one cell.
+    /// An expression, and so one value. In SUM, MIN, MAX and COUNT, a lone reference counts as a range of one cell.
     Expression(Expr),
-    /// The cells of a rectangle.
+    /// A range: all cells of a rectangle.
     Range(Rect),
 }

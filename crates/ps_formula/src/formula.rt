@@ -1,4 +1,4 @@
-//! A formula and how it is read.
+//! A formula, and how to read one from bytes.
 
 ghost use Rattle.std.specs.Prelude.{◌≡◌, ℕ, ◌<◌, ◌≤◌, ◌⊎◌, List, length, IfOk, IfErr, IfNone, IfSome, MatchResult};
 ghost use Rattle.std.specs.List.{list_any};
@@ -14,13 +14,15 @@ use ps_tokens::{Token, tokens};
 use std::alloc::Global;
 use std::marker::Model;
 
-/// The most bytes of an entry, which is what a person types into a cell.
+/// The most bytes of an entry. An entry is what a person types into a cell.
 pub const LONGEST_ENTRY: usize = 512;
 
 /// The most bytes of a formula's canonical text.
 pub const LONGEST_TEXT: usize = 256;
 
-/// A formula. A contract sees it as its tree, so formulas with one tree are equal, however they were spelled.
+/// A formula: its tree, its canonical text and its references.
+///
+/// Contracts see only the tree. So two formulas with the same tree are equal, even if they were spelled differently.
 #[derive(Drop)]
 pub struct Formula {
     tree: Expr,
@@ -53,7 +55,7 @@ impl Formula {
     ghost use Rattle.ps_formula.specs.Formula.{HasTree};
     ghost use Rattle.ps_formula.specs.References.{rects_of, mentions};
 
-    /// Parses the bytes as a formula.
+    /// Parses the bytes as a formula, which begins with `=` or `of:=`, and returns the formula.
     ///
     /// # Errors
     ///
@@ -62,7 +64,7 @@ impl Formula {
     /// - `Memory`: out of memory.
     ///
     /// Cost: linear in the bytes. Allocations: one for each operator, sign and group, the growing list of each call's
-    /// arguments, one each for the tokens and the text, and one for more than three rectangles.
+    /// arguments, one each for the tokens and the text, and one for the rectangles if there are more than three.
     pub fn read(alloc: Global, bytes: &[u8]) -> Result<Formula, Refusal>
         ensures short { IfOk result (λ _. length bytes.now ≤ LONGEST_ENTRY) }
         ensures found { IfOk result (λ t. HasTree bytes.now t) }
@@ -105,7 +107,8 @@ impl Formula {
         &self.tree
     }
 
-    /// Returns the canonical text: the one spelling that all formulas with this tree share. It has this tree too.
+    /// Returns the canonical text: the one spelling that all formulas with this tree share. By the grammar, this text
+    /// has the same tree.
     pub fn text(&self) -> &[u8]
         ensures canonical { result.now ≡ canon self.now }
         ensures has_tree { HasTree result.now self.now }
@@ -114,7 +117,8 @@ impl Formula {
         &self.text
     }
 
-    /// Returns each reference and range as a rectangle, from left to right. Both branches of an IF count.
+    /// Returns each reference and range of the formula as a rectangle, from left to right, those in both branches of an
+    /// IF included. A reference is a rectangle of one cell.
     pub fn rects(&self) -> &[Rect]
         ensures each { result.now ≡ rects_of self.now }
         ensures covered { (c : ℕ) → list_any (λ r. is_inside r c) result.now ≡ mentions self.now c }
@@ -123,7 +127,7 @@ impl Formula {
     }
 }
 
-/// The bytes after the opening of a formula, `=` or `of:=`.
+/// Returns the bytes after the opening of a formula, `=` or `of:=`; `None` if the bytes begin with neither.
 fn after_opening(bytes: &[u8]) -> Option<&[u8]>
     ensures found { IfSome result (λ rest. Opens bytes.now rest.now) }
     ensures none { IfNone result ((rest : List ℕ) → Opens bytes.now rest → ⊥) }
@@ -135,7 +139,7 @@ fn after_opening(bytes: &[u8]) -> Option<&[u8]>
     }
 }
 
-/// A source of the formulas that cells hold.
+/// A collection that finds the formula of a cell, such as the cells of a sheet.
 pub trait Formulas {
     ghost use Rattle.std.specs.Prelude.{Option, ℕ};
     ghost use Rattle.std.specs.Option.{option_copied};

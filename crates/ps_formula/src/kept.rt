@@ -12,8 +12,7 @@ use ps_grid::{Rect, Refusal};
 use ps_tokens::{Token, put_token};
 use std::alloc::Global;
 
-/// Returns `=` and the canonical text of the tokens. It reserves `room` bytes first, and frees the spare ones at the
-/// end.
+/// Returns `=` and the canonical text of the tokens. Reserves `room` bytes first, and frees the spare bytes at the end.
 pub(crate) fn text(alloc: Global, room: usize, tokens: &[Token]) -> Result<Vec<u8>, Refusal>
     ensures text { IfOk result (λ text. text.items ≡ 61 ∷ tokens_text tokens.now) }
     ensures memory { IfErr result (λ e. e ≡ Memory) }
@@ -27,7 +26,7 @@ pub(crate) fn text(alloc: Global, room: usize, tokens: &[Token]) -> Result<Vec<u
     Ok(text)
 }
 
-/// How many of the tokens are references and ranges.
+/// Returns how many of the tokens are references and ranges.
 fn rect_count(tokens: &[Token]) -> usize
     ensures { result ≤ length tokens.now }
 {
@@ -37,7 +36,7 @@ fn rect_count(tokens: &[Token]) -> usize
         .count()
 }
 
-/// Each reference and range among the tokens as a rectangle, in a new list.
+/// Returns each reference and range among the tokens as a rectangle, in a new list.
 fn many_rects(alloc: Global, tokens: &[Token]) -> Result<Vec<Rect>, Refusal>
     ensures rects { IfOk result (λ rects. rects.items ≡ flat_map rects_at tokens.now) }
     ensures memory { IfErr result (λ e. e ≡ Memory) }
@@ -53,7 +52,7 @@ fn many_rects(alloc: Global, tokens: &[Token]) -> Result<Vec<Rect>, Refusal>
     Ok(rects)
 }
 
-/// The first reference or range among the tokens as a rectangle, and the tokens after it.
+/// Returns the first reference or range among the tokens as a rectangle, and the tokens after it.
 fn first_rect(tokens: &[Token]) -> Option<(Rect, &[Token])>
     ensures { MatchOption result
         (flat_map rects_at tokens.now ≡ [])
@@ -70,7 +69,8 @@ fn first_rect(tokens: &[Token]) -> Option<(Rect, &[Token])>
     None
 }
 
-/// Returns each reference and range among the tokens as a rectangle, from left to right. Only more than three allocate.
+/// Returns each reference and range among the tokens as a rectangle, from left to right. Allocates only if there are
+/// more than three.
 pub(crate) fn rects(alloc: Global, tokens: &[Token]) -> Result<Rects, Refusal>
     ensures rects { IfOk result (λ rects. in_line rects ≡ flat_map rects_at tokens.now) }
     ensures memory { IfErr result (λ e. e ≡ Memory) }

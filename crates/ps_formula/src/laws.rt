@@ -3,17 +3,17 @@
 ghost use Rattle.ps_formula.specs.Formula.{CanonicalTextHasTree, OneTree};
 ghost use Rattle.ps_formula.specs.Order.{OrderedByText};
 
-/// States that a text has at most one tree.
+/// States that a text has at most one tree by the grammar of formulas.
 pub fn one_tree()
     ensures { OneTree }
 {}
 
-/// States that the canonical text of a formula has the formula's tree.
+/// States that the canonical text of a formula has the same tree as the formula.
 pub fn canonical_text_has_tree()
     ensures { CanonicalTextHasTree }
 {}
 
-/// States that the order of formulas is the order of the bytes of their canonical texts.
+/// States that formulas are ordered as the bytes of their canonical texts are.
 pub fn ordered_by_text()
     ensures { OrderedByText }
 {}

@@ -4,15 +4,15 @@
 //! its canonical text and its references. The canonical text is the one spelling that all formulas with that tree
 //! share.
 //!
-//! The bytes `= sum( [.$B$2:.A1] ; -007)` are a formula. Its tree is a call of `SUM` with a range and a signed
-//! number, its canonical text `=SUM([.A1:.B2];-7)`, and its one rectangle that of A1 to B2.
+//! The bytes `= sum( [.$B$2:.A1] ; -007)` are a formula. The tree is a call of `SUM` with a range and a signed
+//! number. The canonical text is `=SUM([.A1:.B2];-7)`, and the only rectangle is the one from A1 to B2.
 //!
-//! The contract to use is that of `Formula::read`. The bytes have the tree that it returns, by the grammar of
-//! `specs/Grammar.antt`. It fails with `Refusal::Formula` only if the bytes have no tree. A contract sees a formula as
-//! its tree.
+//! The contract to use is the one of `Formula::read`. Contracts see a formula as its tree. By the grammar of
+//! `specs/Grammar.antt`, a formula that `read` returns has the tree of the bytes. `read` fails with `Refusal::Formula`
+//! only if the bytes have no tree.
 //!
-//! Cost: reading is linear in the bytes, at most 512. A comparison is linear in the shorter text. Everything else is
-//! constant.
+//! Cost: reading is linear in the bytes, which are at most 512. A comparison is linear in the shorter canonical text.
+//! Every other call takes constant time.
 #![tactic(auto)]
 
 mod expr;

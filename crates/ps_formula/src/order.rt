@@ -9,9 +9,9 @@ ghost use Rattle.ps_formula.specs.OrderLaws.{tree_cmp-total, tree_eq-equivalence
 use crate::formula::Formula;
 use std::cmp::Ordering;
 
-/// Formulas are equal if their trees are equal, which is if their canonical texts are.
+/// Formulas are equal if their trees are equal. Their trees are equal exactly if their canonical texts are equal.
 ///
-/// Cost: linear in the shorter text.
+/// Cost: linear in the shorter canonical text.
 impl PartialEq for Formula {
     ghost eq = { tree_eq };
 
@@ -28,7 +28,7 @@ impl Eq for Formula {
 
 /// Formulas are ordered by the bytes of their canonical texts.
 ///
-/// Cost: linear in the shorter text.
+/// Cost: linear in the shorter canonical text.
 impl Ord for Formula {
     ghost cmp = { tree_cmp };
 

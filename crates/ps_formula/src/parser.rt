@@ -24,7 +24,7 @@ use std::alloc::Global;
 /// The loosest level, comparisons.
 const COMPARISON: usize = 3;
 
-/// The level whose operands the operator joins.
+/// Returns the level of the operands that the operator joins: 0 for `*`, 1 for `+` and `-`, and 2 for comparisons.
 fn level_of(operator: Operator) -> usize
     ensures { result ≡ level_of operator }
 {
@@ -37,7 +37,7 @@ fn level_of(operator: Operator) -> usize
     }
 }
 
-/// Whether the function takes so many arguments.
+/// Returns whether the function takes `count` arguments.
 fn accepts(function: Function, count: usize) -> bool
     ensures { result ≡ accepts function count }
 {
@@ -51,7 +51,7 @@ fn accepts(function: Function, count: usize) -> bool
     }
 }
 
-/// Whether an argument of the function may be a range.
+/// Returns whether an argument of the function may be a range.
 fn takes_ranges(function: Function) -> bool
     ensures { result ≡ takes_ranges function }
 {
@@ -61,7 +61,7 @@ fn takes_ranges(function: Function) -> bool
     )
 }
 
-/// The sign that the operator means in front of an operand.
+/// Returns the sign that the operator means in front of an operand; `None` unless it is plus or minus.
 fn sign(operator: Operator) -> Option<Sign>
     ensures { result ≡ sign_of operator }
 {
@@ -72,7 +72,7 @@ fn sign(operator: Operator) -> Option<Sign>
     }
 }
 
-/// The tokens after a closing parenthesis, if the tokens begin with one.
+/// Returns the tokens after a closing parenthesis; `None` if the tokens don't begin with a closing parenthesis.
 fn closed(tokens: &[Token]) -> Option<&[Token]>
     ensures { option_copied result ≡ closed_at tokens.now }
 {
@@ -82,7 +82,7 @@ fn closed(tokens: &[Token]) -> Option<&[Token]>
     }
 }
 
-/// The range at the front, if one stands there, and the tokens after it.
+/// Returns the range at the front and the tokens after it; `None` if no range stands there.
 fn range(tokens: &[Token]) -> Option<(Rect, &[Token])>
     ensures { option_map (λ x. (x.0, x.1.now)) result ≡ range_at tokens.now }
 {
@@ -92,8 +92,8 @@ fn range(tokens: &[Token]) -> Option<(Rect, &[Token])>
     }
 }
 
-/// The operator at the front, if one stands there that joins operands of a level below `loosest`, and the tokens after
-/// it.
+/// Returns the operator at the front and the tokens after it. Returns `None` unless an operator stands there that joins
+/// operands of a level below `loosest`.
 fn operator(loosest: usize, tokens: &[Token]) -> Option<(Operator, &[Token])>
     ensures { option_map (λ x. (x.0, x.1.now)) result ≡ operator_at loosest tokens.now }
 {
@@ -105,7 +105,7 @@ fn operator(loosest: usize, tokens: &[Token]) -> Option<(Operator, &[Token])>
     }
 }
 
-/// The longest expression of the level `loosest` at the front, and the tokens after it.
+/// Returns the longest expression of the level `loosest` at the front, and the tokens after it.
 #[cycle(parser)]
 #[tactic(auto, unfolding(crate::specs::Inside::Reading::level_at))]
 fn level(
@@ -123,8 +123,8 @@ fn level(
     more(alloc, depth - 1, loosest, left, rest)
 }
 
-/// The expression that begins with `left` and goes on with any number of operators, each with its right operand, and
-/// the tokens after it. Each operator joins operands of a level below `loosest`.
+/// Returns the expression that begins with `left` and goes on with any number of operators, each with its right
+/// operand. Also returns the tokens after this expression. Each operator joins operands of a level below `loosest`.
 #[cycle(parser)]
 #[tactic(auto, unfolding(crate::specs::Inside::Reading::level_at))]
 fn more(
@@ -153,7 +153,8 @@ fn more(
     )
 }
 
-/// Any number of signs and then a numeral, a reference, a group or a call, and the tokens after it.
+/// Returns the expression at the front, any number of signs and then a numeral, a reference, a group or a call. Also
+/// returns the tokens after this expression.
 #[cycle(parser)]
 #[tactic(auto, unfolding(crate::specs::Inside::Reading::level_at))]
 fn prefixed(alloc: Global, depth: usize, tokens: &[Token]) -> Result<(Expr, &[Token]), Refusal>
@@ -194,7 +195,7 @@ fn prefixed(alloc: Global, depth: usize, tokens: &[Token]) -> Result<(Expr, &[To
     }
 }
 
-/// A call of the function, and the tokens after it. `tokens` begin after the call's opening parenthesis.
+/// Returns a call of the function, and the tokens after it. `tokens` begin after the call's opening parenthesis.
 #[cycle(parser)]
 #[tactic(auto, unfolding(crate::specs::Inside::Reading::level_at))]
 fn call(
@@ -221,7 +222,8 @@ fn call(
     Ok((Expr::Call(function, items), rest))
 }
 
-/// The arguments in `before` and those at the front of the tokens, and the tokens after the closing parenthesis.
+/// Returns the arguments in `before` and then the arguments at the front of the tokens. Also returns the tokens after
+/// the closing parenthesis.
 #[cycle(parser)]
 #[tactic(auto, unfolding(crate::specs::Inside::Reading::level_at))]
 fn arguments(
@@ -242,8 +244,8 @@ fn arguments(
     after_argument(alloc, depth - 1, function, before, rest)
 }
 
-/// As `arguments`, where the tokens begin after an argument: with the closing parenthesis, or with a separator and an
-/// argument.
+/// Does the same as `arguments`, but the tokens begin after an argument: with the closing parenthesis, or with a
+/// separator and an argument.
 #[cycle(parser)]
 #[tactic(auto, unfolding(crate::specs::Inside::Reading::level_at))]
 fn after_argument(
@@ -266,7 +268,7 @@ fn after_argument(
     }
 }
 
-/// One argument, and the tokens after it.
+/// Returns the argument at the front, and the tokens after it.
 #[cycle(parser)]
 #[tactic(auto, unfolding(crate::specs::Inside::Reading::level_at))]
 fn argument(
@@ -290,7 +292,7 @@ fn argument(
     Ok((Argument::Expression(inner), rest))
 }
 
-/// Parses all of the tokens as one expression.
+/// Parses all of the tokens as one expression, and returns the expression.
 ///
 /// # Errors
 ///

@@ -5,7 +5,7 @@ ghost use Rattle.ps_formula.specs.Inside.Parts.{in_line};
 
 use ps_grid::Rect;
 
-/// Rectangles, from left to right. Up to three, as most formulas have, take no memory of their own.
+/// Rectangles, from left to right. Most formulas have at most three, which take no memory on the heap.
 #[derive(Drop)]
 pub(crate) enum Rects {
     Empty,

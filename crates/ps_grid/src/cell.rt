@@ -10,9 +10,9 @@ use crate::digits::read_digits;
 use crate::size::{CELLS, COLUMNS, LETTERS, NAME_BYTES, ROWS};
 use std::marker::Model;
 
-/// A cell of the grid. In contracts it is its index, below `CELLS`.
+/// A cell of the grid. Contracts see a cell as its index, which is below `CELLS`.
 ///
-/// Cells are numbered from 0: row by row, each row from column 0 on.
+/// The index counts the cells from 0: row by row from the top, and in each row from the left.
 #[derive(Clone, Copy, Debug, PartialEq, Eq, PartialOrd, Ord, Hash)]
 pub struct Cell {
     place: u32,
@@ -56,7 +56,7 @@ impl Cell {
         }
     }
 
-    /// Returns the index of the cell. Cells are numbered from 0: row by row, each row from column 0 on.
+    /// Returns the index of the cell, counted from 0: row by row from the top, and in each row from the left.
     pub fn index(self) -> usize
         ensures index { result ≡ self }
         ensures in_grid { result < CELLS }
@@ -64,7 +64,7 @@ impl Cell {
         self.place as usize
     }
 
-    /// Returns the cell at an index; `None` unless the index is below `CELLS`.
+    /// Returns the cell with this index, as [`Cell::index`] counts; `None` if the index is `CELLS` or more.
     pub fn from_index(index: usize) -> Option<Cell>
         ensures { SomeIff result (index < CELLS) index }
     {
@@ -85,10 +85,11 @@ impl Cell {
         }
     }
 
-    /// Returns the cell that a text names; `None` where it names no cell.
+    /// Returns the cell that the text names, such as `B3`; `None` if the text names no cell.
     ///
-    /// A name is the letters of a column, A to CZ, and the digits of a row, 1 to 1024, with no leading zero. Nothing
-    /// else may stand in it. A text of more than `NAME_BYTES` bytes names no cell, and isn't read.
+    /// A name is the upper-case letters of a column, A to CZ, and then the digits of a row, 1 to 1024. The row has no
+    /// leading zero, and the name has no other bytes. A text of more than `NAME_BYTES` bytes names no cell and isn't
+    /// read.
     pub fn read(text: &[u8]) -> Option<Cell>
         ensures { (c : ℕ) → (result ≡ Some c) ↔ ((c < CELLS) × (text.now ≡ cell_name c)) }
     {
@@ -105,8 +106,8 @@ impl Cell {
 
     /// Returns the cell whose column has the name `letters` and whose row is written in `digits`.
     ///
-    /// Returns `None` if the grid has no such cell, or if the digits begin with a zero. More than `NAME_BYTES` digits
-    /// name no row, and aren't read.
+    /// Returns `None` if `letters` isn't a column, A to CZ, or if `digits` isn't a row, 1 to 1024, in decimal without a
+    /// leading zero. More than `NAME_BYTES` digits are no row, and aren't read.
     #[inline(always)]
     pub fn named(letters: &[u8], digits: &[u8]) -> Option<Cell>
         ensures { (c : ℕ) → (result ≡ Some c)

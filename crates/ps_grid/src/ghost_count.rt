@@ -7,7 +7,7 @@ use std::sync::ledger::{Blank, Book, Ledger, Share};
 
 /// A counter that exists only in contracts: at run time it takes no bytes and does nothing.
 ///
-/// It has no greatest value and never falls. It is stored in a ledger, a ghost sum of std.
+/// The counter never falls and has no greatest value. A ledger stores the count: a sum in std that only contracts see.
 #[derive(Drop)]
 pub struct GhostCount<L: Ledger> {
     /// the count, as the total of a ledger
@@ -27,7 +27,7 @@ impl<L: Ledger> Model for GhostCount<L> {
 }
 
 impl<L: Ledger> GhostCount<L> {
-    /// Creates a counter at 0, stored in the ledger that `blank` opens.
+    /// Creates a counter at 0. `blank` is the right to open the ledger `L`, which stores the count.
     pub fn new(blank: Blank) -> GhostCount<L>
         requires { IsBlankOf blank L.name L.parts }
         ensures { result ≡ 0 }

@@ -8,9 +8,10 @@ pub fn refusal_numbers_differ()
     ensures { NumbersDiffer }
 {}
 
-/// States that a list of more than `CELLS` cells holds some cell twice.
+/// States that a list of more than `CELLS` cells contains some cell twice.
 ///
-/// So does a chain of more than `CELLS` references. In a chain each cell's formula refers to the next cell.
+/// Also states that a chain of more than `CELLS` references contains some cell twice. A chain is a list of cells where
+/// the formula of each refers to the next.
 pub fn long_chains_repeat()
     ensures lists { LongListsRepeat }
     ensures chains { LongChainsRepeat }

@@ -1,18 +1,19 @@
-//! What all other crates build on: the size of the grid, its cells and rectangles, and numbers in digits. It also has
-//! the limits on replicas, workers and sessions, and the refusals: the reasons why calls fail. Its definitions say what
-//! a chain of references is.
+//! What all other crates build on: the size of the grid, its cells and rectangles, and numbers in decimal digits. This
+//! crate also has the limits on replicas, workers and sessions, and the refusals: the reasons why calls fail. It has
+//! `GhostCount`, a counter for contracts, and `Twin`, for copies that can run out of memory. Its definitions say what a
+//! chain of references is.
 //!
-//! It is not the sheet: it knows no values, no formulas and no edits.
+//! This crate is not the sheet: it knows no values, no formulas and no edits.
 //!
-//! The cell `B3` has column 1 and row 3, so its index is `2 * 104 + 1 = 209`. The rectangle from `A2`
-//! to `B3` has the four cells `A2`, `B2`, `A3`, `B3`, in this order.
+//! The cell `B3` has column 1, counted from 0, and row 3, counted from 1. So its index is `2 * 104 + 1 = 209`. The
+//! rectangle from `A2` to `B3` has the four cells `A2`, `B2`, `A3`, `B3`, in this order.
 //!
-//! The contract to use: a `Cell` is its index, below `CELLS`. `Cell::read` finds exactly the cell that has the name. A
-//! `Rect` is its `Area`: left column, top row, width and height, inside the grid. `Rect::cells` yields exactly the
-//! rectangle's cells, each once.
+//! The contract to use: contracts see a `Cell` as its index, below `CELLS`. `Cell::read` returns exactly the cell that
+//! the text names. Contracts see a `Rect` as its `Area`: left column, top row, width and height, inside the grid.
+//! `Rect::cells` yields exactly the rectangle's cells, each once.
 //!
-//! Cost: going through a rectangle's cells takes time linear in its area, and `read_digits` in its bytes. Every other
-//! call takes constant time.
+//! Cost: going through a rectangle's cells takes time linear in the number of cells. `read_digits` takes time linear in
+//! the bytes, and `twin` at most in the size of the value. Every other call takes constant time.
 #![tactic(auto)]
 
 mod cell;

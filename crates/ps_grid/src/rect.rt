@@ -10,8 +10,8 @@ use crate::cell::Cell;
 use crate::size::{COLUMNS, ROWS};
 use std::marker::Model;
 
-/// A rectangle of at least one cell. In contracts it is its `Area`: the left column and the top row, both from 0, and
-/// how many columns and rows it has.
+/// A rectangle of at least one cell. Contracts see a rectangle as its `Area`: its left column and its top row, both
+/// counted from 0, and how many columns and rows it has.
 #[derive(Clone, Copy, Debug, PartialEq, Eq, PartialOrd, Ord, Hash)]
 pub struct Rect {
     left: u8,
@@ -33,7 +33,7 @@ impl Model for Rect {
 }
 
 impl Rect {
-    /// Returns the smallest rectangle that contains both cells. They are two opposite corners of it, in any order.
+    /// Returns the smallest rectangle that contains both cells. The cells are opposite corners, given in any order.
     pub fn new(a: Cell, b: Cell) -> Rect
         ensures spanned { result ≡ spanned a b }
         ensures in_grid { LiesInGrid result }
@@ -121,7 +121,7 @@ impl Rect {
         }
     }
 
-    /// Returns the cell that lies `across` columns to the right of the top left cell, and `down` rows below it.
+    /// Returns the cell `across` columns to the right of the rectangle's left column and `down` rows below its top row.
     pub fn at(self, across: usize, down: usize) -> Cell
         requires across { across < self.width }
         requires down { down < self.height }
@@ -131,7 +131,7 @@ impl Rect {
     }
 }
 
-/// An iterator over the cells of a rectangle, row by row. In contracts it is the list of the cells still to come.
+/// An iterator over the cells of a rectangle, row by row. Contracts see the list of the cells still to come.
 #[derive(Drop)]
 pub struct RectCells {
     rect: Rect,

@@ -17,7 +17,7 @@ pub enum Refusal {
     Cell,
     /// 2: a text entry that is empty, is too long, isn't UTF-8, or has a byte below 32 or a byte 127.
     Text,
-    /// 3: a formula entry outside the grammar.
+    /// 3: an entry that begins like a formula, and isn't a formula by the grammar.
     Formula,
     /// 4: an entry, a canonical formula or a delta's line that is too long.
     TooLong,
@@ -29,17 +29,17 @@ pub enum Refusal {
     Amount,
     /// 8: an option of a choice that is out of range.
     OptionRange,
-    /// 9: a replica's number out of range, or a word that is neither such a number nor a digest.
+    /// 9: a word that is neither a replica's number, 1 to 32, nor a digest. Or a kept file of another replica.
     Replica,
-    /// 10: a replica's total in a tally would pass its greatest value.
+    /// 10: an amount that would raise a replica's total in a tally above the greatest total.
     TallyFull,
-    /// 11: the replica has used its last sequence number in a choice.
+    /// 11: an option to choose, when the replica has used its last sequence number in this choice.
     ChoiceFull,
     /// 12: the removal of an option that isn't chosen.
     NotChosen,
-    /// 13: the timestamp of a cell's content has the greatest time, so no edit can get a later one.
+    /// 13: an assignment to a cell whose content already has the greatest time, so that no time is later.
     ClockFull,
-    /// 14: bytes that aren't a delta's line.
+    /// 14: bytes that aren't a delta's line, or a damaged line of a kept file.
     Delta,
     /// 15: a session line that is too long, or a server's reply that is missing or unexpected.
     Line,
@@ -51,10 +51,10 @@ pub enum Refusal {
     Csv,
     /// 19: out of memory.
     Memory,
-    /// 20: a reader or a writer failed.
+    /// 20: a reader or a writer that failed, or a kept file that another program uses.
     Device,
-    /// 21: no session slot is left. Or the published copies of the sheet, which sessions read, are gone or admit no
-    /// more readers.
+    /// 21: no free session slot. Or the sheet's published copies, from which sessions read, are gone or admit no more
+    /// readers.
     Seat,
 }
 

@@ -8,7 +8,7 @@ use std::alloc::Global;
 
 /// A value that can be copied, unless memory runs out: a `Clone` that can fail.
 pub trait Twin: Sized {
-    /// Returns an equal value. Refused only when out of memory.
+    /// Returns a copy that equals this value. Refused only when out of memory.
     ///
     /// Cost: at most linear in the size of the value.
     fn twin(&self, alloc: Global) -> Result<Self, Refusal>

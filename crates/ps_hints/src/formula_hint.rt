@@ -16,13 +16,13 @@ pub enum FormulaHint<'a> {
     Reference(&'a str),
     /// A range in brackets without one of its dots, or in small letters.
     Range(&'a str, &'a str),
-    /// A name of another sheet.
+    /// A reference that names another sheet.
     OtherSheet,
-    /// Whole columns or whole rows.
+    /// A range whose two ends aren't both cells, such as whole columns or whole rows.
     Columns,
-    /// A range that is no argument of a function that takes ranges.
+    /// A range that stands outside the arguments of a function that takes ranges.
     RangeAlone,
-    /// A cell outside of the grid.
+    /// The name of a cell outside the grid.
     Outside(&'a str),
     /// A name that isn't a function's.
     UnknownFunction(&'a str),
@@ -34,7 +34,7 @@ pub enum FormulaHint<'a> {
     Comma,
     /// A number with a point.
     Point(&'a str),
-    /// A number with a letter.
+    /// A word that begins with a digit and has a letter in it.
     Letters(&'a str),
     /// A numeral that is too large.
     Large(&'a str),
@@ -42,19 +42,19 @@ pub enum FormulaHint<'a> {
     Quote,
     /// A sign of another notation, and what to write for it.
     Sign(&'static str, &'static str),
-    /// A sign that no formula has.
+    /// A character that no formula has.
     NoSign(&'a str),
-    /// A missing argument.
+    /// An argument that is missing, or that ends with an operator.
     MissingArgument,
     /// A bracket or a parenthesis that isn't closed.
     Unclosed(char),
-    /// A bracket or a parenthesis that is closed and wasn't opened.
+    /// A closing bracket or parenthesis without an opening one.
     Unopened(char),
     /// A formula that ends before it is complete.
     Unfinished,
-    /// Anything else.
+    /// A fault that no other variant describes. The hint shows an example of a formula.
     Notation,
-    /// A formula whose canonical text is too long.
+    /// A formula whose canonical text has more than `LONGEST_TEXT` bytes.
     Long,
 }
 

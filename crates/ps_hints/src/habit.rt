@@ -2,21 +2,21 @@
 
 use std::fmt;
 
-/// Why an entry that looks like a number or a formula became a text: what people write by habit, and numbers or
-/// formulas don't have here.
+/// Why an entry that looks like a number or a formula became a text. Each variant is something that people write by
+/// habit, but that numbers and formulas don't have here.
 #[derive(Clone, Copy, Debug, PartialEq, Eq)]
 pub enum Habit {
     /// A decimal point.
     Point,
     /// Commas between thousands, or a decimal comma.
     Comma,
-    /// A blank at one of its ends.
+    /// A blank at the entry's beginning or end.
     Blank,
     /// A sign of a currency.
     Currency,
     /// A percent sign.
     Percent,
-    /// A whole number out of range.
+    /// Digits that would be a whole number, but out of range.
     Large,
     /// An exponent.
     Exponent,

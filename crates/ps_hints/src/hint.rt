@@ -5,15 +5,15 @@ use crate::formula_hint::FormulaHint;
 use crate::line_hint::LineHint;
 use std::fmt;
 
-/// What to do about a refused line or entry, or about an entry that became a text. `Display` writes it without a line
-/// feed.
+/// A hint: what to do about a refused line or entry, or about an entry that became a text. `Display` writes the hint
+/// without a line feed.
 #[derive(Clone, Copy, Debug)]
 pub enum Hint<'a> {
     /// About a refused formula.
     Formula(FormulaHint<'a>),
-    /// About the bytes or the length of an entry, or about an entry that became a text.
+    /// About an entry that was refused for its bytes or its length, or that became a text.
     Entry(EntryHint<'a>),
-    /// About the words of a line or the records of a table, or about what the sheet refused.
+    /// About the words of a line, about what the sheet refused, or about a record of a table.
     Line(LineHint<'a>),
 }
 

@@ -1,12 +1,12 @@
 //! Hints: what to do about a refused line or entry, and about an entry that looks like a number or a formula but is a
 //! text.
 //!
-//! A hint doesn't decide whether a line is refused, or why: the caller passes the refusal. It looks for what people
-//! write by habit, such as `A1` for `[.A1]`, so it may miss what was meant. These functions have no contract: they are
-//! safe, they end, and they take no memory.
+//! A hint doesn't decide whether a line is refused, or why: the caller passes the refusal. The functions look for what
+//! people write by habit, such as `A1` for `[.A1]`, so a hint may miss what was meant. The functions have no contract:
+//! they are safe, they end, and they take no memory.
 //!
 //! - [`line_note`] returns the note about a line of a session: its number, why it was refused, and what to do about it.
-//! - [`field_note`] returns the same about a field of a table, and [`record_note`] about a whole record.
+//! - [`field_note`] returns such a note about a field of a table, and [`record_note`] about a whole record.
 //!
 //! `Display` writes a note as text. For example, line 291 is `set B1 =A1+1`, which is refused as a formula. Its note is
 //! `line 291: err 3 formula: A1 is written [.A1]`. Line 12 is `set B1 12.50`, which is carried out. Its note is

@@ -9,15 +9,15 @@ use std::fmt;
 /// A hint about a line whose words are refused or that the sheet refuses, or about a record of a table.
 #[derive(Clone, Copy, Debug)]
 pub enum LineHint<'a> {
-    /// The name of a cell with small letters.
+    /// A cell's name, or a corner of a rectangle, that has small letters.
     InCapitals(&'a str),
-    /// A verb with capitals.
+    /// A verb (the first word of a line) that has capitals.
     InSmall(&'a str),
     /// A first word that is no verb.
     UnknownVerb(&'a str),
     /// A line without a verb.
     NoVerb,
-    /// A line of this verb that has a word too few or too many.
+    /// A line with this verb and too few or too many words.
     Form(Verb),
     /// A space too many: at an end of the line, or after another space.
     Spaces,
@@ -45,11 +45,11 @@ pub enum LineHint<'a> {
     ChoiceFull,
     /// An option that isn't in the set.
     NotChosen,
-    /// A cell that was set at the last time that there is.
+    /// A cell whose register has the last time that there is, so it can't be set again.
     ClockFull,
-    /// A `push` or `merge` with something else than the line of a delta.
+    /// A `push` or `merge` whose argument isn't the line of a delta.
     NoDelta,
-    /// A `push` or `merge` with a whole reply to `pull`, instead of the line of a delta in it.
+    /// A `push` or `merge` with a whole reply to `pull`, instead of only the delta's line that the reply contains.
     WholeReply,
     /// A delta that is too long for a line.
     LongDelta,
@@ -63,9 +63,9 @@ pub enum LineHint<'a> {
     Records(usize),
     /// A record with more than this many fields.
     Fields(usize),
-    /// A line for which there was no memory.
+    /// A line that was refused because memory ran out. It may be sent again.
     NoMemory,
-    /// A refusal whose cause is not in the line.
+    /// A refusal whose cause isn't in the line itself.
     Outside,
 }
 

@@ -25,7 +25,7 @@ pub struct HintNote<'a> {
     pub place: HintPlace,
     /// Why the line, the field's entry or the record was refused; `None` if it was accepted.
     pub refusal: Option<Refusal>,
-    /// What to do.
+    /// The hint: what to do about the line, the field or the record.
     pub hint: Hint<'a>,
 }
 
@@ -57,8 +57,8 @@ pub fn field_note(cell: Cell, field: &[u8], refusal: Option<Refusal>) -> Option<
     })
 }
 
-/// Returns the note about record `number` of a table, counted from 1. The record lies below the grid's last row, or
-/// else has more fields than the grid has columns.
+/// Returns the note about record `number` of a table, counted from 1, that was refused as `Csv`. If `number` is past
+/// the grid's last row, the note is about too many records, otherwise about too many fields.
 pub fn record_note<'a>(number: u64) -> HintNote<'a> {
     let hint = if number > ROWS as u64 {
         LineHint::Records(ROWS)

@@ -4,17 +4,17 @@ use crate::row::RowReaders;
 use crate::two_rows::TwoRowReaders;
 use ps_grid::Cell;
 
-/// The cells that refer to a cell, as `Index::readers` returns them.
+/// The cells that refer to one cell, the queried cell, as `Index::readers` returns them.
 #[derive(Drop)]
 pub enum Readers<'a> {
-    /// No cell refers to it.
+    /// No cell refers to the queried cell.
     Nobody,
-    /// This cell alone refers to it.
+    /// Only this cell refers to the queried cell.
     One(Cell),
-    /// These cells refer to it, and no others; their spans are stored at one row.
+    /// Exactly these cells refer to the queried cell. Their spans are stored at one row.
     Row(RowReaders<'a>),
-    /// These cells refer to it, and no others; their spans are stored at two rows.
+    /// Exactly these cells refer to the queried cell. Their spans are stored at two rows.
     TwoRows(TwoRowReaders<'a>),
-    /// Any number of cells may refer to it: `Index::dependents` iterates over them.
+    /// Any number of cells, even none, may refer to the queried cell. `Index::dependents` iterates over them.
     Several,
 }

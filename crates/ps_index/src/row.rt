@@ -13,10 +13,13 @@ use crate::spans::Spans;
 use ps_grid::{Cell, ROWS};
 use std::marker::Model;
 
-/// An iterator over the cells that refer to a cell of a column without spans of several rows, in order and each once. A
-/// contract sees it as the list of the cells that are still to come.
+/// An iterator over the cells that refer to one cell, whose column never had a span of several rows. It yields them in
+/// the order of their indices and each once.
 ///
-/// Cost: a step looks at one span, and at one more for each further formula of the cell before.
+/// A contract sees the iterator as the list of the cells that are still to come.
+///
+/// Cost: a step looks at one span. If several formulas are put in for the cell that the step before yielded, the step
+/// first passes over the further spans of that cell.
 #[derive(Drop)]
 pub struct RowReaders<'a> {
     /// the spans of the column

@@ -11,10 +11,11 @@ use ps_grid::Refusal;
 use std::alloc::Global;
 use std::marker::Model;
 
-/// The spans of a column, in the order in which the index stores them. A contract sees it as the list of them.
+/// The spans of a column, in the order in which the index stores them: by the row that stores the span, then by cell. A
+/// contract sees a `Spans` as the list of its spans.
 ///
-/// This is a gap buffer: the free places stand where the last span was put in or taken out. The next change is mostly
-/// near, so it moves few spans.
+/// The list is a gap buffer: its free places stand where the last span was put in or taken out. The next change is
+/// mostly near that place, so it moves few spans.
 #[derive(Drop)]
 pub struct Spans {
     /// the spans, and the free places among them
@@ -53,7 +54,7 @@ impl Spans {
         }
     }
 
-    /// Returns how many spans there are.
+    /// Returns how many spans the column has.
     #[inline(always)]
     pub fn len(&self) -> usize
         ensures { result ≡ length self.now }
@@ -61,7 +62,7 @@ impl Spans {
         self.places.len() - self.free
     }
 
-    /// Returns the span at a position, counted from 0.
+    /// Returns the span at a position of the list. Positions are counted from 0.
     #[inline(always)]
     pub fn at(&self, index: usize) -> Span
         requires { index < length self.now }

@@ -23,14 +23,14 @@ struct Head {
     cell: usize,
 }
 
-/// An iterator over the cells that refer to a cell of a column whose spans of several rows are all stored at one level
-/// of the tree of rows. It yields the cells in order and each once.
+/// An iterator over the cells that refer to one cell, in whose column all spans of several rows are stored at one level
+/// of the tree of rows (see the crate). It yields them in the order of their indices and each once.
 ///
-/// Their spans are stored at the cell's row, and at the one row of that level which is above it in the tree. A contract
-/// sees the iterator as the list of the cells that are still to come.
+/// The spans that contain the cell's row are stored at two rows: the cell's row, and the one row of that level above it
+/// in the tree. A contract sees the iterator as the list of the cells that are still to come.
 ///
-/// Cost: a step passes over the spans of the cell that it yields, and over spans that don't have the row, up to the
-/// next cell.
+/// Cost: a step passes over the spans of the cell that it yields. It also passes over spans that don't contain the row,
+/// up to the next cell.
 #[derive(Drop)]
 pub struct TwoRowReaders<'a> {
     /// the spans of the column

@@ -11,8 +11,8 @@ pub enum KeepFault {
     Memory,
     /// The device failed.
     Device,
-    /// The line with this number, from 1, is invalid: the first line names no replica, or a later one pushes no delta,
-    /// or a delta that adds nothing to those before it.
+    /// The line with this number, counted from 1, is invalid. Either the first line names no replica, or a later line
+    /// pushes no delta, or it pushes a delta that adds nothing to the deltas before it.
     Line(u64),
     /// The file belongs to this other replica.
     Replica(u8),

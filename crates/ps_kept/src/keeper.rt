@@ -57,7 +57,7 @@ impl<D: Device + Drop> SheetKeeper<D> {
         note_deltas(alloc, &mut self.journal, later, &mut self.noted)
     }
 
-    /// Returns the journal.
+    /// Returns the journal that the keeper wrote to.
     pub fn into_journal(self) -> Journal<D>
         ensures { result ≡ self }
     {
@@ -79,10 +79,11 @@ impl<D: Device + Drop> Keeper<Sheet> for SheetKeeper<D> {
 
     /// Adds the changes that the journal doesn't have yet, and syncs the file, so that the whole history is durable.
     ///
-    /// Fails when the device fails, when out of memory, and when a change has no line. Whether it fails or not, and at
-    /// whatever moment a crash comes, the next start reads a beginning of the history that has all that was durable.
+    /// Fails when the device fails, when out of memory, and when a change is too long for a line. Whether the call
+    /// fails or not, and at whatever moment a crash comes, the next start reads a beginning of the history. This
+    /// beginning has all changes that were durable before the call.
     ///
-    /// Cost: linear in the lines that are added; at most one append and one sync, and none where nothing is new.
+    /// Cost: linear in the lines that are added; at most one append and one sync, and none if there is no new change.
     fn sync(&mut self, alloc: Global, board: &mut Sheet) -> Result<(), Failed>
         requires fits { IsNoted board.old.replica board.old.history self.old × (self.old.has_failed ≡ false) }
         ensures same { board.new ≡ board.old }

@@ -3,20 +3,20 @@ ghost use Rattle.ps_kept.specs.Laws.{CrashesKeepDigested, CrashesKeepSheets, Fau
 ghost use Rattle.ps_kept.specs.Laws.{ReadFilesOpen};
 ghost use Rattle.ps_kept.specs.Laws.{SquashedFilesRead, StartsMayCrash, StaysNoted, ToldLinesHaveNoDigests};
 
-/// States that a journal whose lines are a beginning of a history still has a beginning of it once the history has
-/// grown.
+/// States that the lines of a journal, if they are a beginning of a history, are also a beginning of each longer
+/// history that begins with this history.
 pub fn longer_histories_fit()
     ensures { StaysNoted }
 {}
 
-/// States that the next start reads the file after a crash. The history that it reads is a beginning of the one that
-/// was written, and has all changes that were durable.
+/// States that the next start reads the file after a crash. The start then reads a beginning of the written history,
+/// with all changes that were durable.
 pub fn crashes_keep_sheets()
     ensures { CrashesKeepSheets }
 {}
 
-/// States what [`crashes_keep_sheets`] states, of a file with digest lines, which are checksums. A start reads the
-/// history from the other lines. After a crash all digest lines are right. No line of a history has the form of one.
+/// States what [`crashes_keep_sheets`] states, for a file with digest lines, which are checksums. A start reads the
+/// history from the other lines. After a crash all digest lines are right. No history has a line of a digest's form.
 pub fn crashes_keep_digested_sheets()
     ensures lines { ToldLinesHaveNoDigests }
     ensures crash { CrashesKeepDigested }
@@ -29,19 +29,20 @@ pub fn one_history_is_read()
     ensures opens { ReadFilesOpen }
 {}
 
-/// States that two starts in a row read the same from a file, even if the first crashes while it cuts a torn line off.
+/// States that two starts in a row read the same from a file, even if the first start crashes while it cuts off a torn
+/// line.
 pub fn starts_read_the_same()
     ensures again { ReadAgain }
     ensures crash { StartsMayCrash }
 {}
 
-/// States that a start reads a history with the same join, of the same replica, from the squashed lines of a file. So
-/// the sheet shows the same. Each line of the file must end in a line feed, without a carriage return before it.
+/// States that a start reads the same join, for the same replica, from a file and from its squashed lines. So the sheet
+/// shows the same. Each line of the file must end in a line feed, without a carriage return before it.
 pub fn squashed_files_read_the_same()
     ensures { SquashedFilesRead }
 {}
 
-/// States that a crash spares the durable lines even if it puts other bytes after them: a line that the next start
+/// States that the durable lines survive a crash even if other bytes come after them: a line that the next start
 /// refuses stands after all durable lines.
 pub fn faults_come_after_the_kept()
     ensures { FaultsComeAfter }

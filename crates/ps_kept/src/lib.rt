@@ -5,22 +5,23 @@
 //! sheet of a file, and returns it with a [`SheetKeeper`]. The keeper makes a session's changes durable before the
 //! session sends the replies about them.
 //!
-//! This crate isn't the session: it carries out no commands and writes no replies. It isn't the journal (`ps_keep`),
-//! which appends lines to the file and syncs it. It takes no lock. It decides which lines a file may have:
+//! This crate isn't the session: it carries out no commands and writes no replies. The crate isn't the journal
+//! (`ps_keep`) either, which appends lines to the file and syncs it. It takes no lock. It decides which lines a file
+//! may have:
 //!
 //! - The first line names the replica that was asked for.
-//! - Each later line pushes a delta, in any spelling, that adds something to those before it. So each is one change of
-//!   the history.
+//! - Each later line pushes a delta, in any spelling, that adds something to the deltas before it. So each of these
+//!   lines is one change of the history.
 //!
 //! The contracts to use:
 //!
-//! - [`open_kept`]: the sheet's history is what the lines push, and all of it is durable. Or it names the line or the
-//!   replica that it can't accept, and returns the file as it was.
+//! - [`open_kept`]: the sheet's history is what the lines push, and all of it is durable. If the file has a line or a
+//!   replica that can't be accepted, `open_kept` names this line or replica, and returns the file unchanged.
 //! - [`SheetKeeper`]'s `sync`: the whole history is durable. At whatever moment a crash comes, the next start reads
 //!   a beginning of the history that has all that was durable (`Outlives`).
 //! - The laws: a file has at most one history, and no start refuses the file after a crash. Two starts in a row read
-//!   the same from a file. From the squashed lines of a file a start reads a history with the same join. A file with
-//!   digest lines (`DigestedFile` of `ps_keep`) outlives a crash as well.
+//!   the same from a file. From the squashed lines of a file a start reads a history with the same join. After a crash
+//!   a start also reads a file with digest lines (`DigestedFile` of `ps_keep`), with all durable changes.
 //!
 //! Code that shares a sheet between sessions adds lines by [`note_deltas`].
 //!

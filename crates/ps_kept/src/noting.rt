@@ -37,11 +37,11 @@ fn note_delta<D: Device + Drop>(
     Ok(())
 }
 
-/// Adds a change line for each of these deltas to the journal, in order, and counts each in `noted`. The lines aren't
-/// durable before the next sync.
+/// Adds a change line for each of these deltas to the journal, in order, and adds 1 to `noted` for each line. The lines
+/// aren't durable before the next sync.
 ///
-/// Fails at the first delta whose line is too long, and when out of memory. The lines before the failure stay in the
-/// journal.
+/// Fails at the first delta whose line is too long, and when out of memory. The lines added before the failure stay in
+/// the journal, and `noted` counts them.
 ///
 /// Cost: linear in the lines; the device isn't called.
 pub fn note_deltas<D: Device + Drop>(

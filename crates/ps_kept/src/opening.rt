@@ -72,27 +72,28 @@ fn keep_on<F: Found + Drop>(
     }
 }
 
-/// Reads the sheet of a replica, 1 to 32, from its file `found`, and returns the sheet with the keeper that writes to
-/// this file from then on.
+/// Reads the sheet of `replica`, 1 to 32, from the file `found`. Returns the sheet and a keeper that writes to this
+/// file from then on.
 ///
-/// The sheet may evaluate many formulas at once in up to `workers` threads, 1 to `WORKERS`. `meter` counts the formulas
-/// that are evaluated.
+/// The sheet evaluates formulas in up to `workers` threads at once, 1 to `WORKERS`. `meter` counts the formulas that
+/// are evaluated.
 ///
-/// The first line has to be `replica ` and the number. Each other line has to push a delta that adds something to those
-/// before it. A piece after the last line feed comes from a crash during a write, and is cut off. A file without a
-/// whole line must be empty or hold a beginning of the first line, which is then written.
+/// The first line has to be `replica ` and the replica's number. Each later line has to push a delta that adds
+/// something to the deltas before it. Bytes after the last line feed come from a crash during a write, and are cut
+/// off. A file without a whole line must be empty or hold a beginning of the first line, which is then written.
 ///
-/// Each change of the history fits a line, so no `pull` is refused as too long.
+/// Each change of the history fits a line, so a reply to `pull` never fails because a change is too long.
 ///
 /// # Errors
 ///
-/// - `Line`: the number of the first line that isn't as above, from 1. It is 1 for a file without a whole line.
+/// - `Line`: the number of the first line that breaks the rules above, counted from 1. The number is 1 for a file
+///   without a whole line that isn't a beginning of the first line.
 /// - `Replica`: the file belongs to this other replica.
 /// - `Memory`: out of memory.
 /// - `Device`: the device failed.
 ///
-/// With `Line` and `Replica` the result has the file, as it was to the byte. With `Memory` it has the file, too, unless
-/// this had no whole line yet.
+/// With `Line` and `Replica` the error holds the file, unchanged to the byte. With `Memory` the error holds the file
+/// unless the file had no whole line yet.
 ///
 /// Cost: linear in the file. Each formula that the sheet has in the end is evaluated once.
 pub fn open_kept<R: Threads + Sync, F: Found + Drop, L: Ledger>(

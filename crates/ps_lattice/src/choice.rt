@@ -1,5 +1,5 @@
 //! An observed-remove set of options: a removal takes away only those additions of an option that it has observed.
-//! Each addition is a pair (`Pair`) of the option and a tag.
+//! Each addition is a pair (`Pair`) of the option and a tag, which is a replica with a sequence number.
 
 ghost use Rattle.std.specs.Prelude.{◌≡◌, ℕ, ◌+◌, ◌<◌, ◌≤◌, ◌↔◌, not, ◌&&◌, ◌||◌, ◌==◌, [], ◌∷◌, Contains, IsTrue};
 ghost use Rattle.std.specs.Prelude.{IfOk, IfErr, IsErrOf, IsBitSet, true, filter, length, map as each};
@@ -21,16 +21,16 @@ use std::alloc::{AllocError, Global};
 use std::cmp::Ordering;
 use std::marker::Model;
 
-/// One addition of an option: the option and a tag of its own, the replica that chose it with a sequence number.
+/// One addition of an option to a choice: the option and a tag. The tag is the replica and a sequence number.
 ///
-/// Pairs are ordered by option, then by replica, then by sequence.
+/// Pairs are ordered by option, then by replica, then by sequence number.
 #[derive(Clone, Copy, Debug, PartialEq, Eq)]
 pub struct Pair {
     /// The option, 0 to `OPTIONS` - 1.
     pub option: u8,
     /// The replica that chose the option, 1 to `REPLICAS`.
     pub replica: u8,
-    /// The sequence number, 1 to `SEQUENCES`; a replica uses each at most once.
+    /// The sequence number, 1 to `SEQUENCES`; a replica uses each number at most once in a choice.
     pub sequence: u16,
 }
 
@@ -185,7 +185,7 @@ impl Choice {
         self.parts().is_empty()
     }
 
-    /// Returns all additions of options, removed or not, ascending: each as its pair, and whether it is removed.
+    /// Returns all pairs of the choice, ascending, each with a mark that is true if the pair is removed.
     #[tactic(auto, using(crate::proofs::Views::items_are))]
     pub fn parts(&self) -> &[(Pair, bool)]
         ensures value { result.now ≡ map.entries self.now }
@@ -194,11 +194,12 @@ impl Choice {
         self.pairs.items()
     }
 
-    /// Returns the choice with these pairs; `None` unless they are ascending, distinct and in range.
+    /// Returns the choice with these pairs, each with a mark that is true if the pair is removed.
     ///
-    /// Refused only when out of memory.
+    /// Returns `None` unless the pairs are ascending and distinct, and all their numbers are in range. Refused only
+    /// when out of memory.
     ///
-    /// Cost: linear in the parts.
+    /// Cost: linear in the pairs.
     pub fn from_parts(alloc: Global, parts: Vec<(Pair, bool)>) -> Result<Option<Choice>, Refusal>
         ensures ok { IfOk result (λ c. SomeIff c (IsTrue (is_choice parts.items)) (map.from_sorted parts.items)) }
         ensures memory { IfErr result (λ e. e ≡ Refusal.Memory) }
@@ -210,9 +211,10 @@ impl Choice {
         Ok(Some(Choice { pairs }))
     }
 
-    /// Returns the chosen options as bits: bit k for option k.
+    /// Returns the chosen options as bits: bit k is set if option k is chosen.
     ///
-    /// Cost: linear in the pairs. After an option's first pair that isn't removed, the others are skipped 16 at a time.
+    /// Cost: linear in the pairs. After an option's first pair that isn't removed, the option's other pairs are skipped
+    /// 16 at a time.
     pub fn options(&self) -> u64
         ensures { (k : ℕ) → k < OPTIONS → (IsBitSet result k ↔ IsTrue (is_chosen self.now k)) }
     {
@@ -221,12 +223,13 @@ impl Choice {
 
     /// Returns the delta by which the replica chooses the option: one new pair.
     ///
-    /// The pair's sequence number is one above the replica's last one in this set.
+    /// The new pair's sequence number is one above the replica's greatest in this choice, over all options. The choice
+    /// changes only once it is joined with the delta.
     ///
     /// # Errors
     ///
     /// - `OptionRange`: the option isn't below `OPTIONS`.
-    /// - `ChoiceFull`: the replica has used the last sequence number, `SEQUENCES`.
+    /// - `ChoiceFull`: the replica has used the last sequence number, `SEQUENCES`, in this choice.
     /// - `Memory`: out of memory.
     ///
     /// Cost: linear in the pairs.
@@ -258,6 +261,8 @@ impl Choice {
     }
 
     /// Returns the delta that removes the option: the option's pairs that aren't removed yet, marked as removed.
+    ///
+    /// The choice changes only once it is joined with the delta.
     ///
     /// # Errors
     ///
@@ -456,11 +461,12 @@ impl Twin for Choice {
 }
 
 impl Choice {
-    /// Returns the join of this set and another one.
+    /// Returns the join of this choice and `other`: the pairs of both, each removed if either choice has removed the
+    /// pair.
     ///
     /// Refused only when out of memory.
     ///
-    /// Cost: as for `join`.
+    /// Cost: as for `Join::join`.
     #[tactic(auto, using(crate::proofs::Joining::seen_joined, crate::proofs::ChoiceLemmas::joined_in_range))]
     #[inline(always)]
     pub fn joined(&self, alloc: Global, other: &Choice) -> Result<Choice, Refusal>
@@ -472,11 +478,12 @@ impl Choice {
         })
     }
 
-    /// Returns what in the delta is new to this set: pairs that this set lacks, and pairs that only the delta removes.
+    /// Returns the part of `delta` that is new to this choice.
     ///
-    /// Refused only when out of memory.
+    /// The part has the pairs that this choice lacks, and the pairs that only the delta has removed. Refused only when
+    /// out of memory.
     ///
-    /// Cost: one search in this set for each pair of the delta.
+    /// Cost: one search in this choice for each pair of the delta.
     pub fn news(&self, alloc: Global, delta: &Choice) -> Result<Choice, Refusal>
         ensures ok { IfOk result (λ c. IsNewsOf joined_choices self.now delta.now c) }
         ensures memory { IfErr result (λ e. e ≡ Refusal.Memory) }

@@ -1,5 +1,5 @@
-//! Lists of keys and values, sorted by key. Counters and choices are stored as such lists, and so are the cells of a
-//! delta.
+//! Lists of keys and values, sorted by key. The entries of a counter, of a choice and of a delta form lists of this
+//! kind.
 
 ghost use Rattle.std.specs.Prelude.{◌≡◌, ◌≤◌, ◌↔◌, ◌++◌, length, IsTrue, IfOk, IfErr, OnOk};
 ghost use Rattle.std.specs.FinMap as map;
@@ -13,18 +13,20 @@ use ps_grid::{Refusal, Twin};
 use std::alloc::Global;
 use std::cmp::Ordering;
 
-/// A value in lists that are merged by key, as those of counters and sets are, or position by position.
+/// A type of values whose lists can be merged. Lists with keys, as of counters and choices, join the values at the same
+/// key. Lists without keys join the values at the same position.
 pub trait Merge: Join + Twin + Drop {
     /// Returns the join of this value and `other` as a new value, without making a twin (a copy) of either first.
     ///
     /// Refused only when out of memory.
     ///
-    /// Cost: as for `join`.
+    /// Cost: as for `Join::join`.
     fn joined_with(&self, alloc: Global, other: &Self) -> Result<Self, Refusal>
         ensures ok { IfOk result (λ v. v ≡ Self.joined self.now other.now) }
         ensures memory { IfErr result (λ e. e ≡ Refusal.Memory) };
 
-    /// Appends copies of the entries to the list, one by one. Types that own no memory may copy all of them at once.
+    /// Appends copies of the entries, which are keys with values, to the list. The default copies one entry at a time.
+    /// A type that owns no memory may copy all entries at once.
     ///
     /// Refused only when out of memory; some entries may then have been appended.
     ///
@@ -61,7 +63,7 @@ pub(crate) trait Newer: Join + Copy {
 
 /// Returns whether the keys are strictly ascending.
 ///
-/// Cost: linear in the entries; it stops at the first that is out of order.
+/// Cost: linear in the entries. The test stops at the first entry that is out of order.
 pub fn is_ascending<K: Ord, X>(entries: &[(K, X)]) -> bool
     ensures { result ≡ map.is_sorted K.cmp entries.now }
 {

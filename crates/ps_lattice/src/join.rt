@@ -1,4 +1,4 @@
-//! States that join, and values in a linear order.
+//! The traits `Join`, for states that can be joined, and `Linear`, for values in a linear order.
 
 ghost use Rattle.std.specs.Prelude.{◌≡◌, ◌↔◌, IsTrue, OnOk, OnErr, IfErr};
 ghost use Rattle.ps_grid.specs.declared.refusal.Refusal.{Refusal};
@@ -7,7 +7,8 @@ ghost use Rattle.std.specs.declared.cmp.Ordering.{Ordering};
 use ps_grid::{Cell, Refusal};
 use std::alloc::Global;
 
-/// A join-semilattice: any two states have a least state above both, their join.
+/// A join-semilattice: any two states have a least state above both, their join. A state is *above* another if the
+/// other adds nothing new to it.
 ///
 /// States may be joined in any order, in any groups and repeatedly: the result is the same.
 pub trait Join: Sized {
@@ -17,7 +18,7 @@ pub trait Join: Sized {
     ///
     /// Refused only when out of memory, and then this state stays as it was.
     ///
-    /// Cost: linear in the two states.
+    /// Cost: linear in the sizes of both states.
     fn join(&mut self, alloc: Global, other: &Self) -> Result<(), Refusal>
         ensures ok { OnOk result (self.new ≡ joined self.old other.now) }
         ensures err { OnErr result (self.new ≡ self.old) }
@@ -36,7 +37,7 @@ pub trait Join: Sized {
     ghost idempotent: { (x : Self) → joined x x ≡ x };
 }
 
-/// Values in a linear order: of two different values one is always the greater.
+/// A type of values in a linear order: of two different values, one is always the greater.
 pub trait Linear: Ord {
     ghost no_ties: { (x y : Self) → Self.cmp x y ≡ Ordering.Equal → x ≡ y };
 }

@@ -4,21 +4,22 @@
 //! An edit makes a delta, a small state of the same type, after Almeida, Shoker and Baquero, 2018. The state after the
 //! edit is the state before it joined with the delta. Deltas may be joined in any order, in any groups and repeatedly.
 //!
-//! This crate isn't a network, and sends nothing. Nor is it the sheet: the caller says which replica edits, and which
-//! cell a state belongs to.
+//! This crate sends nothing and knows no sheet. The caller says which replica edits, and stores which cell a state
+//! belongs to.
 //!
-//! The contract to use: `Join` joins two states, and says whether one adds nothing new to the other (is below it). Its
-//! three laws hold for all states. Each edit's clause `ok` names the delta that it makes, and the next clause the state
-//! after it. The clause `fresh` says that the edit changes something. `parts` takes a state apart, `from_parts` puts it
-//! together.
+//! The contract to use: `Join` joins two states, and says whether one state is *below* the other (adds nothing new to
+//! the other). The three laws of `Join` hold for all states. Each edit's clause `ok` names the delta that the edit
+//! makes, and other clauses describe the state after the edit. The clause `fresh` says that the edit changes something.
+//! `parts` returns the parts of a state, and `from_parts` makes a state from its parts.
 //!
-//! Replica 1 adds 5 to an empty counter: the delta holds `(1, P = 5, N = 0)`. Replica 2 subtracts 2 from the same
-//! empty counter: `(2, P = 0, N = 2)`. Joined in either order, and again, the counter shows 3.
+//! In a counter, P is the total that a replica added, and N the total that it subtracted. Replica 1 adds 5 to an empty
+//! counter: the delta holds `(1, P = 5, N = 0)`. Replica 2 subtracts 2 from the same empty counter: the delta holds
+//! `(2, P = 0, N = 2)`. After a join with both deltas, in either order and repeatedly, the counter's value is 3.
 //!
-//! Cost: a join is linear in both states. If one counter or choice is below the other, the join copies nothing, and
-//! both then share one list. A twin (a copy) shares the list too, and takes no memory. An empty state takes no memory
-//! either, nor does a counter that only one replica has changed while both its counts are below 2^32. A counter and a
-//! choice are two words each, and a register takes two words more than its content.
+//! Cost: a join is linear in both states. If one counter or choice is below the other, the join copies nothing: the
+//! result shares the list of the other. A twin (a copy) shares the list of its original, and takes no memory. An empty
+//! state takes no memory on the heap. Nor does a counter that only one replica has changed while both its counts are
+//! below 2^32. A counter and a choice are two words each, and a register takes two words more than its content.
 #![tactic(auto)]
 
 mod choice;

@@ -23,7 +23,9 @@ pub struct Assignment<V> {
     pub content: V,
 }
 
-/// A register: nothing yet, or the greatest assignment that it has seen, by time, then by replica, then by content.
+/// A register: the greatest of the assignments that were joined into it, or nothing yet.
+///
+/// Assignments are ordered by time, then by replica, then by content.
 #[derive(Debug, Drop)]
 pub struct Register<V> {
     held: Held<V>,
@@ -61,7 +63,7 @@ impl<V> Register<V> {
         }
     }
 
-    /// Returns whether nothing was assigned yet.
+    /// Returns whether nothing was assigned to the register yet.
     pub fn is_empty(&self) -> bool
         ensures { IsTrue result ↔ (self.now ≡ None) }
     {
@@ -102,7 +104,7 @@ impl<V> Register<V> {
         }
     }
 
-    /// Returns the Lamport time of the assignment, and 0 if nothing was assigned.
+    /// Returns the Lamport time of the assignment that the register holds, or 0 if nothing was assigned yet.
     #[inline(always)]
     pub fn time(&self) -> u64
         ensures value { result ≡ time_of self.now }
@@ -138,7 +140,8 @@ impl<V> Register<V> {
 impl<V: Linear + Drop> Register<V> {
     /// Returns the delta by which the replica assigns the content, at a time one above the time of this register.
     ///
-    /// Refused as `ClockFull` if the time of this register is `LAST_TIME` already.
+    /// The register changes only once it is joined with the delta. Refused as `ClockFull` if the time of this register
+    /// is `LAST_TIME` already.
     pub fn assign(&self, replica: u8, content: V) -> Result<Register<V>, Refusal>
         requires { (1 ≤ replica) × (replica ≤ REPLICAS) }
         ensures ok { IfOk result (λ d. d
@@ -163,11 +166,11 @@ impl<V: Linear + Drop> Register<V> {
 }
 
 impl<V: Linear + Twin + Drop> Register<V> {
-    /// Returns the join of this register and another one.
+    /// Returns the join of this register and `other`: a register with the greater of both assignments.
     ///
     /// Refused only when out of memory.
     ///
-    /// Cost: constant; where the stamps are equal, one comparison of the contents.
+    /// Cost: at most one twin (a copy) of a content, and one comparison of the contents if the stamps are equal.
     #[inline(always)]
     pub fn joined(&self, alloc: Global, other: &Register<V>) -> Result<Register<V>, Refusal>
         ensures ok { IfOk result (λ r. r ≡ joined_registers V.cmp self.now other.now) }
@@ -177,11 +180,12 @@ impl<V: Linear + Twin + Drop> Register<V> {
         newer.twin(alloc)
     }
 
-    /// Returns what in the delta is new here: the delta if its assignment is the greater one, else an empty register.
+    /// Returns the part of `delta` that is new to this register: the whole delta if it has the greater assignment,
+    /// otherwise an empty register.
     ///
     /// Refused only when out of memory.
     ///
-    /// Cost: constant; where the stamps are equal, one comparison of the contents.
+    /// Cost: at most one twin (a copy) of a content, and one comparison of the contents if the stamps are equal.
     #[inline(always)]
     pub fn news(&self, alloc: Global, delta: &Register<V>) -> Result<Register<V>, Refusal>
         ensures ok { IfOk result (λ r. IsNewsOf (joined_registers V.cmp) self.now delta.now r) }

@@ -191,13 +191,14 @@ impl Tally {
         }
     }
 
-    /// Returns the counter with these counts.
+    /// Returns the counter with these replicas and their counts.
     ///
-    /// Returns `None` unless the replicas are ascending and distinct, and their counts in range and not both 0.
+    /// Returns `None` unless the replicas are ascending, distinct and from 1 to `REPLICAS`. Each replica's two counts
+    /// must be at most `COUNT_LIMIT`, and not both 0.
     ///
     /// Refused only when out of memory.
     ///
-    /// Cost: linear in the parts.
+    /// Cost: linear in the number of replicas.
     pub fn from_parts(alloc: Global, parts: Vec<(u8, Count)>) -> Result<Option<Tally>, Refusal>
         ensures ok { IfOk result (λ t. SomeIff t (IsTrue (is_tally parts.items)) (map.from_sorted parts.items)) }
         ensures memory { IfErr result (λ e. e ≡ Refusal.Memory) }
@@ -209,7 +210,7 @@ impl Tally {
         Ok(Some(Tally { counts }))
     }
 
-    /// Returns the value of the counter: the sum of what was added less the sum of what was subtracted.
+    /// Returns the value of the counter: the sum of what all replicas added, minus the sum of what they subtracted.
     ///
     /// Cost: linear in the replicas that changed the counter.
     pub fn value(&self) -> i64
@@ -219,9 +220,10 @@ impl Tally {
         added as i64 - subtracted as i64
     }
 
-    /// Returns the delta by which the replica adds the amount: the raised total of what the replica added.
+    /// Returns the delta by which the replica adds the amount.
     ///
-    /// The counter changes only once it is joined with the delta.
+    /// The delta holds the total that the replica will then have added, and 0 as its total subtracted. The counter
+    /// changes only once it is joined with the delta.
     ///
     /// # Errors
     ///
@@ -250,9 +252,10 @@ impl Tally {
         Tally::of_one(alloc, replica, count)
     }
 
-    /// Returns the delta by which the replica subtracts the amount: the raised total of what the replica subtracted.
+    /// Returns the delta by which the replica subtracts the amount.
     ///
-    /// The counter changes only once it is joined with the delta.
+    /// The delta holds the total that the replica will then have subtracted, and 0 as its total added. The counter
+    /// changes only once it is joined with the delta.
     ///
     /// # Errors
     ///
@@ -357,11 +360,12 @@ fn is_amount(amount: u64) -> bool
 }
 
 impl Tally {
-    /// Returns the join of this counter and another one.
+    /// Returns the join of this counter and `other`: for each replica, the greater of both totals added, and the
+    /// greater of both totals subtracted.
     ///
     /// Refused only when out of memory.
     ///
-    /// Cost: as for `join`.
+    /// Cost: as for `Join::join`.
     #[tactic(auto, using(crate::proofs::Joining::seen_joined, crate::proofs::TallyLemmas::joined_in_range))]
     #[inline(always)]
     pub fn joined(&self, alloc: Global, other: &Tally) -> Result<Tally, Refusal>
@@ -373,10 +377,10 @@ impl Tally {
         })
     }
 
-    /// Returns what in the delta is new to this counter: of each replica, the counts that are greater in the delta.
+    /// Returns the part of `delta` that is new to this counter: each replica's counts that are above this counter's.
     ///
-    /// A count that isn't greater becomes 0. A replica without a greater count is left out. Refused only when out of
-    /// memory.
+    /// Any other count is 0 in the result, and the result leaves out each replica with both counts 0.
+    /// Refused only when out of memory.
     ///
     /// Cost: one search in this counter for each replica of the delta.
     pub fn news(&self, alloc: Global, delta: &Tally) -> Result<Tally, Refusal>

@@ -17,11 +17,12 @@ pub trait After {
     /// whether a cell has a formula
     ghost formula: { Self → ℕ → Bool };
 
-    /// Returns whether the formula of `c` refers to `d`; no cell without a formula refers to any.
+    /// Returns whether the formula of `c` refers to `d`; `false` if `c` has no formula.
     fn refers(&self, c: Cell, d: Cell) -> bool
         ensures { result ≡ refers self.now c d };
 
-    /// Returns rectangles that together have exactly the cells that the formula of `c` refers to; they may overlap.
+    /// Returns rectangles that together contain exactly the cells that the formula of `c` refers to. The rectangles may
+    /// overlap. If `c` has no formula, they contain no cell.
     fn rects(&self, c: Cell) -> &[Rect]
         ensures { (d : ℕ) → d < CELLS → list_any (λ r. is_inside r d) result.now ≡ refers self.now c d };
 

@@ -22,8 +22,9 @@ const _: () = prove!(BLOCKS * HIGH == ROWS);
 
 /// A set of cells of the grid.
 ///
-/// It also counts its cells in each block, which is 64 rows of one column. So a scan of a range skips blocks without
-/// cells of the set. A contract sees the set as a table: for each cell whether it is in the set.
+/// For each block (64 rows of one column) the set also counts how many of the block's cells it has. So a scan of a
+/// range skips blocks without cells of the set. A contract sees the set as a table: for each cell of the grid, whether
+/// that cell is in the set.
 #[derive(Drop)]
 pub struct CellSet {
     // for each cell whether it is in the set
@@ -60,7 +61,9 @@ fn block_at(c: Cell) -> usize
 impl CellSet {
     /// Returns a set without cells.
     ///
-    /// Fails only when out of memory. No other call takes memory.
+    /// Fails only when out of memory. No other call of a set allocates memory.
+    ///
+    /// Cost: linear in the cells of the grid.
     pub fn new(alloc: Global) -> Result<CellSet, Refusal>
         ensures empty { IfOk result (λ s. (c : ℕ) → has_cell s c ≡ false) }
         ensures memory { IfErr result (λ e. e ≡ Memory) }
@@ -99,7 +102,7 @@ impl CellSet {
         self.blocks[block_at(c)] == 0
     }
 
-    /// Puts a cell into the set.
+    /// Puts a cell into the set. If the cell is in the set already, the call changes nothing.
     pub fn insert(&mut self, c: Cell)
         ensures { (d : ℕ) → has_cell self.new d ≡ (has_cell self.old d || nat_eq d c) }
     {
@@ -112,7 +115,7 @@ impl CellSet {
         }
     }
 
-    /// Takes a cell out of the set.
+    /// Takes a cell out of the set. If the cell isn't in the set, the call changes nothing.
     pub fn remove(&mut self, c: Cell)
         ensures { (d : ℕ) → has_cell self.new d ≡ (has_cell self.old d && not (nat_eq d c)) }
     {

@@ -10,31 +10,38 @@ ghost use Rattle.ps_region.specs.Values.{OutsideKeeps, QuietKeeps};
 
 use ps_index::Index;
 
-/// States that an index lists for a cell `d` exactly the cells with a formula that refers to `d`, by the formulas that
-/// the index stands for. What an index lists for `d` is what `Index::dependents` yields.
+/// States that an index lists for a cell `d` exactly the cells with a formula that refers to `d`. The list is what
+/// `Index::dependents` yields, and the formulas are those that the index stands for (`Stands`).
 pub fn listed_cells_refer(index: &Index)
     ensures { (forms : Puts) → Stands index.now forms → (c d : ℕ) → c < ALL → d < ALL
         → list_any (nat_eq c) (listed index.now d) ≡ refers forms c d }
 {}
 
-/// States that the references before and after a change give the same region, if they differ at touched cells alone.
+/// States that the references before a change and those after it give the change the same region. The law needs that
+/// only touched cells refer to other cells than before.
 pub fn old_and_new_give_one_region()
     ensures { SameRegion }
 {}
 
-/// States that a cell outside the region is cyclic after a change exactly if it was before.
+/// States that a cell outside the region of a change is cyclic after the change exactly if it was cyclic before.
 pub fn cycles_stay_outside()
     ensures { SameCyclicOutside }
 {}
 
-/// States that each cell outside the region keeps its value. It holds for any evaluation of formulas whose results
-/// depend only on the cells that the formula refers to.
+/// States that each cell outside the region of a change keeps its value.
+///
+/// `V` is the type of values. The law holds for any evaluation of formulas with two properties. The value of a formula
+/// depends only on the cells that the formula refers to. It is the fault of a cycle only if one of these cells has that
+/// fault.
 pub fn cells_outside_keep_their_values<V>()
     ensures { OutsideKeeps V }
 {}
 
-/// States that a formula cell of the region that reaches no cycle keeps its value if the cell isn't touched and refers
+/// States that some formula cells of the region keep their values: those that reach no cycle, aren't touched, and refer
 /// to no cell whose value changes.
+///
+/// The law holds for the evaluations that `cells_outside_keep_their_values` describes, if it is decidable whether two
+/// values of type `V` are equal.
 pub fn quiet_cells_keep_their_values<V>()
     ensures { QuietKeeps V }
 {}

@@ -1,11 +1,11 @@
-//! The region of a change: the cells whose values may change, the order in which to evaluate their formulas, and those
-//! of them that reach a cycle.
+//! The region of a change: the cells whose values may change, the order in which to evaluate their formulas, and which
+//! of these cells reach a cycle.
 //!
-//! It is not the evaluator: it knows no values and no contents. It reads from an index and from an implementation of
-//! `After` what the formulas refer to. The caller evaluates the formulas.
+//! This crate evaluates nothing, and knows no values and no contents. It reads what the formulas refer to from an index
+//! and from an implementation of `After`. The caller evaluates the formulas.
 //!
-//! A cell is cyclic if its formula reaches a cycle: some chain of references from it has a cell twice. Touched cells
-//! are those that the change itself gives a new state.
+//! A cell is cyclic if its formula reaches a cycle: some chain of references that begins at the cell has a cell twice.
+//! Touched cells are those that the change itself gives a new state.
 //!
 //! With `=[.A1]` in `B1`, `=[.B1]` in `C1` and `=[.C1]+[.B1]` in `D1`, a change of `A1`, which holds a number, has the
 //! region `A1`, `B1`, `C1`, `D1`. Level 1 is `B1`, level 2 `C1`, level 3 `D1`; `A1` is in no level, as it has no
@@ -16,20 +16,22 @@
 //! alone:
 //!
 //! - The members are the cells with a chain of references to a touched cell, each once.
-//! - Level `n` has formula cells of the region that reach no cycle: those whose longest chain within these has `n`
-//!   cells. So cells of one level don't refer to each other.
+//! - The levels have the formula cells of the region that reach no cycle. A cell is in level `n` if the longest chain
+//!   of references that begins at it and has only such cells has `n` cells. So cells of one level don't refer to each
+//!   other.
 //! - The cyclic cells are the region's formula cells that reach a cycle.
 //!
 //! The index may still list what touched cells referred to before the change.
 //!
-//! Cost: `Region::new` allocates the tables, 31 bytes for each cell of the grid, and writes none of it. No other call
-//! of a region allocates. The first `Region::mark` writes the tables that are read by cell, 15 bytes for each cell of
-//! the grid; no later mark passes over the grid.
+//! Cost: `Region::new` allocates the tables, 31 bytes for each cell of the grid, and writes nothing to them. No other
+//! call of a region allocates. The first `Region::mark` writes the tables that are read by cell, 15 bytes for each cell
+//! of the grid; no later mark passes over the grid.
 //!
-//! For each cell of the region, a mark iterates over the cells that refer to it: twice, or mostly once if they are two.
-//! If some cell is cyclic, the mark also looks up each reference of the region's formulas in the set of cyclic cells
-//! that it gets. It looks up a range in blocks of 64 rows, and cell by cell only in blocks that have a cyclic cell. How
-//! many cyclic cells there are elsewhere doesn't count.
+//! For each cell of the region, a mark iterates over the cells that refer to that cell. It does so twice if they are
+//! three or more, once if they are none or one, and mostly once if they are two. If the caller's set of cyclic cells
+//! isn't empty, the mark also looks up each reference of the region's formulas in that set. It looks up a range in
+//! blocks of 64 rows, and cell by cell only in blocks that have a cyclic cell. Cyclic cells in other blocks cost
+//! nothing.
 #![tactic(auto)]
 
 mod after;

@@ -97,11 +97,14 @@ impl Region {
         })
     }
 
-    /// Finds the region of a change, the levels of its formula cells and the cyclic ones. It allocates no memory.
+    /// Finds the region of a change, its levels and its cyclic cells. They replace those of the last mark. The call
+    /// allocates no memory.
     ///
-    /// `touched` has the cells that the change gives a new state, and `after` the formulas after it. `index` has these
-    /// formulas too, and may still have those that touched cells had before. `cyclic` has the cells outside the region
-    /// that are cyclic after the change, and may have any cells of the region.
+    /// - `touched` has the cells that the change gives a new state.
+    /// - `after` has the formulas after the change.
+    /// - `index` has the formulas of `after`, and may still have formulas that touched cells had before the change.
+    /// - `cyclic` has each cell outside the region that is cyclic after the change. It may also have cells of the
+    ///   region, cyclic or not; they make no difference.
     ///
     /// Cost: the cells of the region and the references to them. If `cyclic` isn't empty, also the references of the
     /// region's formulas. The first mark also writes six tables of the grid's size.
@@ -174,10 +177,10 @@ impl Region {
 
     /// Returns the cells of level `n`, each once: those to evaluate in step `n` of a recalculation.
     ///
-    /// Levels are counted from 1 to `levels()`; for any other `n` the slice is empty. They have the formula cells of
-    /// the region that reach no cycle. Such a cell is in level `n` if the longest chain of references from it through
-    /// such cells has `n` cells, itself included. So it refers only to cells of lower levels and to cells outside the
-    /// levels.
+    /// Levels are counted from 1 to `levels()`; for any other `n` the slice is empty. The levels together have the
+    /// formula cells of the region that reach no cycle. A cell's level is the number of cells in the longest chain of
+    /// references that begins at the cell and has only cells of the levels. So a cell refers only to cells of lower
+    /// levels and to cells without a level.
     pub fn level(&self, n: usize) -> &[Cell]
         ensures inside { 0 < n → n ≤ level_count self.now → result.now ≡ level_cells self.now n }
         ensures other { level_count self.now < n → result.now ≡ [] }
@@ -191,24 +194,25 @@ impl Region {
         &self.order[from..to]
     }
 
-    /// Returns the formula cells of the region that reach a cycle, each once.
+    /// Returns the formula cells of the region that reach a cycle, each once, in unspecified order.
     pub fn cyclic(&self) -> &[Cell]
         ensures { result.now ≡ self.now.cyclic }
     {
         &self.cyclic
     }
 
-    /// Returns whether the cell is a formula cell of the region.
+    /// Returns whether the cell is in the region and has a formula after the change.
     pub fn is_formula(&self, c: Cell) -> bool
         ensures { result ≡ has_left self.now c }
     {
         self.contains(c) && !self.plain[c.index()]
     }
 
-    /// Returns how many cyclic cells the formula of a cell refers to; `None` unless it is a formula cell of the region.
+    /// Returns how many cyclic cells the formula of a cell refers to, or `None` if the cell isn't a formula cell of the
+    /// region. The count of a cell in a level is 0.
     ///
-    /// Nothing in the program calls it. It is part of the public interface, and shows the counts by which a mark sorts
-    /// cells into levels and cycles. The count of a cell in a level is 0.
+    /// Nothing in the program calls `left`. It is part of the public interface, and shows the counts by which a mark
+    /// tells cells of levels from cyclic cells.
     pub fn left(&self, c: Cell) -> Option<usize>
         ensures { result ≡ (if has_left self.now c then Some (slice_index self.now.left c) else None) }
     {

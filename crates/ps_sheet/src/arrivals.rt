@@ -94,7 +94,8 @@ impl Arrivals {
 
     /// Makes the delta of an edit at a replica, over the join of the history and of the list, and adds it to the list.
     ///
-    /// Fails as [`Sheet::edit`] would once the sheet had accepted the list. The list is then as before.
+    /// Fails with the refusal that [`Sheet::edit`] would return after the sheet had appended the list. The list is then
+    /// as before.
     ///
     /// Cost: that of the delta, and of [`Grid::join`].
     pub fn edit(&mut self, alloc: Global, replica: u8, edit: Edit) -> Result<(), Refusal>

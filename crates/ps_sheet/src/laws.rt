@@ -10,12 +10,13 @@ ghost use Rattle.ps_cells.specs.Settled.{SettledAtLeastOnce, SettledAtMostOnce};
 
 use crate::sheet::Sheet;
 
-/// States that a state of the grid has at most one settled assignment of values to cells.
+/// States that a state of the grid settles at most one value for each cell: two settled assignments of values to cells
+/// are equal.
 pub fn settled_at_most_once()
     ensures { SettledAtMostOnce }
 {}
 
-/// States that a state of the grid has a settled assignment of values to cells.
+/// States that a state of the grid settles a value for each cell: it has a settled assignment of values to cells.
 pub fn settled_at_least_once()
     ensures { SettledAtLeastOnce }
 {}
@@ -25,19 +26,20 @@ pub fn cells_outside_show_the_same()
     ensures { OutsideShowsTheSame }
 {}
 
-/// States when a formula cell shows the same in two states, though it is in the region of the cells where they differ.
-/// It reaches no cycle, the states don't differ at this cell, and it refers to no cell that shows another value.
+/// States that a formula cell shows the same in two states, though it is in the region of the cells where they differ,
+/// under three conditions. The formula cell reaches no cycle, its own state is the same in both, and each cell that it
+/// refers to shows the same value in both.
 pub fn quiet_cells_show_the_same()
     ensures { QuietShowsTheSame }
 {}
 
-/// States that the delta that an edit makes over a state isn't below that state: an accepted edit always changes it.
+/// States that an accepted edit always changes the state: the edit's delta adds something new to it.
 pub fn edits_are_fresh()
     ensures { EditsAreFresh }
 {}
 
-/// States that a history to which deltas were accepted joins to the same state as if all of them had been appended,
-/// also those that weren't, since they add nothing new.
+/// States that the history after some deltas were accepted has the same join as the history before, followed by all
+/// these deltas. Accepting appends only the deltas that add something new, and the others don't change the join.
 pub fn accepted_deltas_join()
     ensures { AcceptedDeltasJoin }
 {}
@@ -50,7 +52,8 @@ pub fn same_deltas_show_the_same(a: &Sheet, b: &Sheet)
     same_join_shows_the_same(a, b)
 }
 
-/// States that two sheets whose histories have the same join show the same values, also if their replicas differ.
+/// States that two sheets whose histories have the same join show the same values, even if the sheets have different
+/// replica numbers.
 pub fn same_join_shows_the_same(a: &Sheet, b: &Sheet)
     requires { joined_history a.now.history ≡ joined_history b.now.history }
     ensures { shown_at a.now.shown ≡ shown_at b.now.shown }

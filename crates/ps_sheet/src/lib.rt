@@ -1,15 +1,15 @@
 //! The sheet of one replica: the deltas that it accepted, and what each cell shows.
 //!
 //! A sheet turns edits into deltas, and accepts deltas of other replicas in any order and as often as they come. It
-//! shows the settled value of each cell: `#CYCLE!` exactly if a chain of references from the cell holds a cell twice,
-//! and else the value of what the cell holds.
+//! shows the settled value of each cell: `#CYCLE!` exactly if a chain of references from the cell has some cell twice,
+//! and otherwise the value of what the cell holds.
 //!
-//! It is the only crate that makes deltas of edits. It depends on `ps_cells`, which works out which formulas a change
-//! evaluates. A sheet knows no bytes, no lines and no other sheet, and it sends nothing.
+//! This crate alone makes deltas of edits. It depends on `ps_cells`, which works out which formulas a change evaluates.
+//! A sheet knows no bytes, no lines and no other sheet, and it sends nothing.
 //!
 //! A delta touches a cell if it changes the cell's state. The region of a change is the touched cells and all cells
-//! that refer to them, directly or through others. Its formulas are evaluated level by level: the formulas of a level
-//! don't refer to one another, and come after those that they refer to.
+//! that refer to them, directly or through others. The region's formulas are evaluated level by level: the formulas of
+//! a level don't refer to one another, and come after the formulas that they refer to.
 //!
 //! Workers share the formulas of a level: one worker for each 4,096 formulas, up to the number that the sheet was
 //! opened with. What the sheet shows, refuses and reports is the same for every number of workers. A call that changes
@@ -19,9 +19,10 @@
 //!
 //! - An edit appends exactly the delta that `delta_of_edit` gives over the joined history (the state that the accepted
 //!   deltas join to), or returns the first refusal that holds.
-//! - A received delta is appended, unless it adds nothing new to the joined history; contracts call it below that. A
-//!   merge appends only the part of a delta that is new.
-//! - After each, as after [`Sheet::open`], the sheet is an `IsSheet`: what it shows is settled for the joined history.
+//! - A received delta is appended, unless it adds nothing new to the joined history. Contracts say that such a delta is
+//!   below the joined history. A merge appends only the part of a delta that is new.
+//! - After each of these calls, as after [`Sheet::open`], the sheet is an `IsSheet`: what it shows is settled for the
+//!   joined history.
 //! - After a refusal everything is as before. A call returns `Memory` only if it had a delta to append.
 //! - Settled values exist ([`settled_at_least_once`]), are the only ones ([`settled_at_most_once`]), and depend on the
 //!   set of deltas alone ([`same_deltas_show_the_same`]).
@@ -44,7 +45,8 @@
 //!
 //! - [`Staging::stage`] works a change out in place.
 //! - [`Staging::list_changed`] lists the cells that show another value.
-//! - [`Staging::one_changed`] returns that cell without a list, if the change wrote only one cell's shown value.
+//! - [`Staging::one_changed`] returns the one cell that shows another value, without a list, if the change wrote no
+//!   other cell's shown value.
 //! - [`Staging::commit`] or [`Staging::cancel`] ends the change.
 //!
 //! [`Sheet::edit`], [`Sheet::receive`] and [`Sheet::merge`] stage a change and commit it.
@@ -60,8 +62,8 @@
 //! Cost: a sheet stores its deltas, and for each cell of the grid what it shows and some numbers for recalculating. A
 //! change costs its delta and its region: the region's cells, the references to them, and the evaluations, which the
 //! workers of a wide level share. If a cell of the region has a formula or showed `#CYCLE!`, the change also looks once
-//! at each cell that shows `#CYCLE!`. Preparing a change also sorts the cells that changed. Taking it back costs the
-//! cells whose shown value it wrote. Reading what a cell shows takes constant time.
+//! at each cell that shows `#CYCLE!`. Preparing a change also sorts the cells that changed. Cancelling a change costs
+//! the cells whose shown value it wrote. Reading what a cell shows takes constant time.
 #![tactic(auto)]
 
 mod arrivals;

@@ -23,12 +23,12 @@ use std::sync::ledger::Ledger;
 use std::thread::Threads;
 
 /// A change of a sheet that is worked out, and not yet made. It owns the sheet until [`Prepared::commit`] or
-/// [`Prepared::cancel`] returns it.
+/// [`Prepared::cancel`] returns the sheet.
 ///
-/// It is part of the public interface, for callers that want to see a change before it is made, and can do without the
-/// sheet meanwhile. The program doesn't use it: it stages changes in place, by a [`Staging`].
+/// This type is part of the public interface, for callers that want to see a change before it is made, and can do
+/// without the sheet meanwhile. The program doesn't use this type: it stages changes in place, by a [`Staging`].
 ///
-/// A contract sees it as its `PreparedView`.
+/// A contract sees a `Prepared` as its `PreparedView`.
 pub struct Prepared {
     /// the sheet, with the change staged
     staging: Staging,
@@ -56,8 +56,8 @@ impl Sheet {
     /// If the change's delta adds nothing new to the state, the result isn't [`Prepared::fresh`], and making it changes
     /// nothing. The formulas are evaluated and counted here, whether the change is then made or given up.
     ///
-    /// Nothing in the program calls it, as the program stages changes in place. It is part of the public interface, for
-    /// callers that want to see a change before it is made.
+    /// Nothing in the program calls this function, as the program stages changes in place. The function is part of the
+    /// public interface, for callers that want to see a change before it is made.
     ///
     /// Fails as [`Sheet::edit`], [`Sheet::receive`] or [`Sheet::merge`] would, and then returns the sheet as it was.
     ///
@@ -86,11 +86,12 @@ impl Sheet {
         self.prepare_by(rt, &Open, alloc, change, meter)
     }
 
-    /// Works out a change as [`Sheet::prepare`] does. Each worker calls `gate` before each of its evaluations.
+    /// Works out a change as [`Sheet::prepare`] does, with a `gate`: a hook that each worker thread calls before each
+    /// formula that it evaluates.
     ///
-    /// It is part of the public interface, as [`Sheet::prepare`] is. Nothing in the program calls it.
+    /// This function is part of the public interface. Nothing in the program calls it.
     ///
-    /// Cost: that of [`Sheet::prepare`], and of the gate.
+    /// Cost: that of [`Sheet::prepare`], and of the calls of `gate`.
     pub fn prepare_by<R: Threads + Sync, G: Gate, L: Ledger>(
         self,
         rt: &R,
@@ -132,7 +133,8 @@ impl Prepared {
         Prepared { staging }
     }
 
-    /// Returns the change's delta. Of a merge it is the news, the part that is new; if there is none, the whole delta.
+    /// Returns the change's delta. For a merge this is only the news, the part of the delta that the state doesn't have
+    /// yet. If a merge has no news, this is the whole delta.
     pub fn delta(&self) -> &Delta
         ensures delta { result.now ≡ self.now.delta }
         ensures prepared { IsPrepared self.now }

@@ -40,9 +40,10 @@ pub struct Report {
     pub version: u64,
     /// The number of formulas that were evaluated.
     pub evaluated: u64,
-    /// The number of formula cells of the region that show `#CYCLE!` after the change.
+    /// The number of formula cells in the region that show `#CYCLE!` after the change.
     pub cyclic: u64,
-    /// The length of the longest chain of references among the other formula cells of the region, counted in cells.
+    /// The number of cells in the longest chain of references among those formula cells of the region that don't show
+    /// `#CYCLE!` after the change.
     pub levels: u64,
 }
 
@@ -105,13 +106,13 @@ impl Sheet {
     ghost use Rattle.ps_sheet.specs.Edits.{delta_of_edit};
     ghost use Rattle.ps_sheet.specs.Sheet.{IsSheet, Takes};
 
-    /// Creates the empty sheet of a replica, 1 to 32.
+    /// Creates the empty sheet of the replica with the number `replica`, 1 to 32.
     ///
     /// At most `workers` threads, 1 to `WORKERS`, evaluate formulas at the same time.
     ///
     /// # Errors
     ///
-    /// - `Replica` if the replica is out of range.
+    /// - `Replica` if the replica's number is out of range.
     /// - `Memory` if allocation fails.
     ///
     /// Cost: linear in the cells of the grid.
@@ -131,7 +132,7 @@ impl Sheet {
         })
     }
 
-    /// Makes the delta of an edit at the sheet's replica, over its state, and appends it to the history.
+    /// Makes an edit at the sheet's replica: appends the edit's delta over the sheet's state to the history.
     ///
     /// # Errors
     ///
@@ -139,9 +140,10 @@ impl Sheet {
     ///
     /// - `Amount` or `OptionRange` if the amount or the option is out of range.
     /// - `NotTally` or `NotChoice` if the cell doesn't hold the counter or the set that the edit changes.
-    /// - `TallyFull` if the replica's count would pass its limit, or `ChoiceFull` if it has used all its sequences.
+    /// - `TallyFull` if the replica's count in the counter would pass its limit.
+    /// - `ChoiceFull` if the replica has used all sequence numbers that mark its choices in the set.
     /// - `NotChosen` if the option to take out isn't in the set.
-    /// - `ClockFull` if the register of a cell that the edit assigns to has the last time.
+    /// - `ClockFull` if the register of a cell that the edit assigns to has the last time that there is, `LAST_TIME`.
     /// - `Memory` if allocation fails.
     ///
     /// Cost: that of the delta and its join, and of the region: its cells, the references to them, and the evaluations
@@ -213,7 +215,7 @@ impl Sheet {
 
     /// Merges a delta made elsewhere: appends only its news to the history.
     ///
-    /// The news is the least delta that does to the state what the whole delta would. If there is none, nothing
+    /// The news is the least delta that does to the state what the whole delta would. If the delta has no news, nothing
     /// changes, and the report has the old version.
     ///
     /// Fails only when out of memory, and only if there is news. It then changes nothing.
@@ -323,8 +325,8 @@ impl Sheet {
 
     /// Returns whether the state has everything in `delta` that is marked with the sheet's own replica.
     ///
-    /// If it hasn't, another sheet uses the same replica number, or this one lost changes of its own. The call takes no
-    /// memory.
+    /// If the result is false, another sheet uses the same replica number, or this sheet lost changes of its own. The
+    /// call takes no memory.
     ///
     /// Cost: for each count in the delta, a pass over the counts that its cell has in the sheet. For each pair in the
     /// delta (an option and the tag of its choice), a binary search among the pairs that its cell has in the sheet.

@@ -96,7 +96,7 @@ impl Staging {
         })
     }
 
-    /// Creates a `Staging` of a sheet, in which nothing is staged.
+    /// Creates a `Staging` that owns `sheet`, with nothing staged.
     pub fn new(sheet: Sheet) -> Staging
         ensures staging { result ≡ staging_of sheet }
         ensures sheet { IsSheet sheet }
@@ -107,7 +107,7 @@ impl Staging {
         staging
     }
 
-    /// Returns the sheet; no change may be staged.
+    /// Returns the sheet. Call it only while no change is staged.
     pub fn into_sheet(self) -> Sheet
         requires none { self.staged ≡ None }
         ensures same { result ≡ sheet_of self }
@@ -121,12 +121,12 @@ impl Staging {
     /// Works out a change without making it, and allocates all that making it needs.
     ///
     /// If the change's delta adds nothing new to the state, the staged change isn't [`Staging::fresh`], and committing
-    /// it changes nothing. Each worker calls `gate` before each of its evaluations. The formulas are evaluated and
-    /// counted here, whether the change is then committed or cancelled.
+    /// it changes nothing. `gate` is a hook that each worker thread calls before each formula that it evaluates. The
+    /// formulas are evaluated and counted here, whether the change is then committed or cancelled.
     ///
     /// Fails as [`Sheet::edit`], [`Sheet::receive`] or [`Sheet::merge`] would, and then nothing is staged.
     ///
-    /// Cost: that of [`Sheet::edit`], [`Sheet::receive`] or [`Sheet::merge`], and of the gate.
+    /// Cost: that of [`Sheet::edit`], [`Sheet::receive`] or [`Sheet::merge`], and of the calls of `gate`.
     #[inline(always)]
     pub fn stage<R: Threads + Sync, G: Gate, L: Ledger>(
         &mut self,
@@ -301,7 +301,8 @@ impl Staging {
         contents::is_clock_full(self.cells.grid().at(cell))
     }
 
-    /// Returns what the cell's register holds, or `None` if nothing was ever assigned to it. No change may be staged.
+    /// Returns what the cell's register holds, or `None` if nothing was ever assigned to it. Call it only while no
+    /// change is staged.
     pub fn content(&self, cell: Cell) -> Option<&Content>
         requires none { self.now.staged ≡ None }
         ensures held { option_copied result
@@ -311,11 +312,11 @@ impl Staging {
         content(self.cells.grid().at(cell))
     }
 
-    /// Returns whether the state has everything in `delta` that is marked with the sheet's own replica. No change may
-    /// be staged.
+    /// Returns whether the state has everything in `delta` that is marked with the sheet's own replica. Call it only
+    /// while no change is staged.
     ///
-    /// If it hasn't, another sheet uses the same replica number, or this one lost changes of its own. It takes no
-    /// memory.
+    /// If the result is false, another sheet uses the same replica number, or this sheet lost changes of its own. The
+    /// call takes no memory.
     ///
     /// Cost: for each count in the delta, a pass over the counts that its cell has in the sheet. For each pair in the
     /// delta (an option and the tag of its choice), a binary search among the pairs that its cell has in the sheet.
@@ -346,8 +347,8 @@ impl Staging {
         report
     }
 
-    /// Makes the staged change, as [`Staging::commit`] does, for callers that need no report or have read it. It takes
-    /// no memory.
+    /// Makes the staged change, as [`Staging::commit`] does, for callers that don't need the report or have read it.
+    /// The call takes no memory.
     ///
     /// Cost: that of [`Staging::commit`].
     #[inline(always)]
@@ -388,9 +389,9 @@ impl Staging {
         }
     }
 
-    /// Lists the cells whose shown value the staged change alters; [`Staging::changed`] then returns them.
+    /// Lists the cells whose shown value the staged change alters. [`Staging::changed`] then returns this list.
     ///
-    /// Cost: that of sorting them, and the cells whose shown value was written.
+    /// The call takes no memory. Cost: that of sorting the list, and the cells whose shown value was written.
     pub fn list_changed(&mut self)
         requires staged { is_some self.old.staged ≡ true }
         ensures changed { IsSomeAnd self.new.staged (λ p.
@@ -424,8 +425,8 @@ impl Staging {
         self.cells.list_values();
     }
 
-    /// Returns the delta of the staged change. Of a merge it is the news, the part that is new; if there is none, the
-    /// whole delta.
+    /// Returns the delta of the staged change. For a merge this is only the news, the part of the delta that the state
+    /// doesn't have yet. If a merge has no news, this is the whole delta.
     pub fn delta(&self) -> &Delta
         requires staged { is_some self.now.staged ≡ true }
         ensures delta { IsSomeAnd self.now.staged (λ p. result.now ≡ p.delta) }

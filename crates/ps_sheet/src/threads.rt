@@ -15,7 +15,7 @@ fn is_send_and_sync<T: Send + Sync>()
 
 /// States that a `Staging` may move to another thread (`Send`). It does nothing.
 ///
-/// Callers that share one between threads call this first, so that the prover has this fact.
+/// Callers that share a `Staging` between threads call this first, so that the prover has this fact.
 pub fn staging_is_send()
     ensures { IsSend staging.the_row }
 {

@@ -22,7 +22,8 @@ use ps_value::Operand;
 /// don't share a few sets of the processor's cache.
 pub(crate) const BLOCK: usize = 57;
 
-/// The number of rows from which a range is worth a call of `Shown::remember`: it then contains a whole block.
+/// The least number of rows, 114, for which a range is worth a call of `Shown::remember`. A range of that many rows
+/// contains a whole block (57 rows of a column) in each of its columns.
 pub const LONG: usize = 2 * BLOCK;
 
 /// The summary of the items at the places `from..to`, cell by cell. Places beyond the end of `kept` are empty.

@@ -8,23 +8,23 @@ use ps_grid::{Refusal, Twin};
 use ps_value::{Fault, Operand, SharedLabel, Value};
 use std::alloc::Global;
 
-/// What the table stores for a cell: its value in 16 bytes, with a text shared.
+/// The stored form of what a cell shows, in 16 bytes. The bytes of a text are shared with its other owners.
 #[derive(Drop)]
 pub enum Kept {
-    /// Nothing.
+    /// No value: the cell shows nothing.
     Empty,
     /// A whole number.
     Num(i64),
     /// A text.
     Text(SharedLabel),
-    /// Options: bit k stands for option k.
+    /// A set of chosen options: bit k is 1 if option k is chosen.
     Choice(u64),
-    /// A fault in place of a value.
+    /// A fault, such as `#DIV/0!`.
     Err(Fault),
 }
 
 impl Kept {
-    /// Returns the value that the cell shows.
+    /// Returns the stored value as a `Value`, with a copy of a text's bytes.
     pub fn value(&self) -> Value
         ensures { result ≡ value_of self.now }
     {
@@ -37,7 +37,8 @@ impl Kept {
         }
     }
 
-    /// Returns the part of the value that evaluation needs. A text gives no bytes; options give their number.
+    /// Returns the part of the value that evaluation needs. For a text that is only the fact that there is a text, and
+    /// for options it is how many are chosen.
     #[inline]
     pub fn operand(&self) -> Operand
         ensures { result ≡ operand_of (value_of self.now) }
@@ -62,9 +63,9 @@ impl Kept {
         }
     }
 
-    /// Returns whether both cells show the same value.
+    /// Returns whether `self` and `other` have the same value.
     ///
-    /// Cost: linear in the bytes of two texts; else constant.
+    /// Cost: constant, except that two texts cost at most linear time in their bytes.
     #[inline(always)]
     pub fn is_same(&self, other: &Kept) -> bool
         ensures { IsTrue result ↔ (value_of self.now ≡ value_of other.now) }

@@ -38,7 +38,8 @@ const PLACES: usize = STRIDE * COLUMNS;
 /// The number of blocks of a table.
 const BLOCKS: usize = PLACES / BLOCK;
 
-/// What each cell shows. A contract sees it as a list, and names by `shown_at` the value that each cell shows.
+/// The table of what each cell shows. A contract sees the table as a list of stored values (`Kept`), and `shown_at`
+/// gives the value that a cell shows by this list.
 #[derive(Drop)]
 pub struct Shown {
     /// the cells, column after column, up to the last one that was ever put; its capacity is all places
@@ -118,7 +119,7 @@ fn led_by(fault: Fault, others: &Summary) -> Summary
 impl Shown {
     /// Creates a table where each cell shows nothing. Fails only when out of memory.
     ///
-    /// Cost: two allocations, 2 MB together, which it reserves and doesn't write.
+    /// Cost: two allocations, 2 MB together; nothing is written to them yet.
     pub fn new(alloc: Global) -> Result<Shown, Refusal>
         ensures empty { IfOk result (λ s. shown_at s ≡ λ _. Nothing) }
         ensures memory { IfErr result (λ e. e ≡ Memory) }
@@ -133,14 +134,14 @@ impl Shown {
         })
     }
 
-    /// Returns what a cell shows.
+    /// Returns the value that a cell shows. The bytes of a text are copied.
     pub fn at(&self, cell: Cell) -> Value
         ensures { result ≡ shown_at self.now cell }
     {
         self.kept(cell).value()
     }
 
-    /// Returns the stored form of what a cell shows.
+    /// Returns the stored form of what a cell shows, without a copy.
     #[inline]
     pub fn kept(&self, cell: Cell) -> &Kept
         ensures { value_of result.now ≡ shown_at self.now cell }
@@ -153,7 +154,8 @@ impl Shown {
         }
     }
 
-    /// Returns the part of a cell's value that evaluation needs. A text gives no bytes; options give their number.
+    /// Returns the part of a cell's value that evaluation needs. For a text that is only the fact that there is a text,
+    /// and for options it is how many are chosen.
     #[inline]
     pub fn operand(&self, cell: Cell) -> Operand
         ensures { result ≡ operand_of (shown_at self.now cell) }
@@ -161,12 +163,13 @@ impl Shown {
         self.kept(cell).operand()
     }
 
-    /// Returns what SUM, MIN, MAX and COUNT need to know of the numbers and faults in a range. If there are several
-    /// faults, it has the first one, row by row.
+    /// Returns what SUM, MIN, MAX and COUNT need to know of the numbers and faults in a range. If the range has several
+    /// faults, the summary has the first one, row by row.
     ///
-    /// Cost: a step for each block that has a stored summary and all its rows in the range, and one for each other
-    /// cell. A block has 57 rows of a column, and a column's last block 55. If a range of several columns has a fault,
-    /// finding the first one costs at most as much again, and a step for each cell of one more block in each column.
+    /// Cost: a step for each block with a stored summary that lies in the range as a whole, and one for each other cell
+    /// of the range. A block has 57 rows of a column, and a column's last block has 55. If a range of several columns
+    /// has a fault, the search for the first fault costs at most as much again, and a step for each cell of one more
+    /// block in each column.
     pub fn summary(&self, rect: Rect) -> Summary
         ensures { Summarizes (range_items (shown_at self.now) rect) result }
     {
@@ -238,12 +241,13 @@ impl Shown {
         summary_between(&self.kept, &self.sums, top, top + rect.height() + below)
     }
 
-    /// Stores the summary of each block that has all its rows in the range. What the cells show stays the same.
+    /// Stores the summary of each block that lies in the range as a whole. What the cells show stays the same, and the
+    /// call allocates no memory. A block has 57 rows of a column, and a column's last block has 55.
     ///
-    /// `summary` then reads these cells no more until `put` drops the block's summary.
+    /// Until `put` drops the summary of a block, `summary` reads it in place of the block's cells.
     ///
-    /// Cost: for each column, its blocks in the range, and the cells of those that have no summary yet. It is constant
-    /// for a column if a run of blocks known to have summaries reaches through the range.
+    /// Cost: linear in the blocks of the range, and in the cells of those blocks that have no stored summary yet. A
+    /// column costs constant time if the table has noted that all its blocks in the range have summaries.
     pub fn remember(&mut self, rect: Rect)
         ensures { self.new ≡ self.old }
     {
@@ -272,14 +276,17 @@ impl Shown {
         }
     }
 
-    /// Stores what a cell shows from now on, and returns what it showed before. It takes no memory.
+    /// Stores what a cell shows from now on, and returns what the cell showed before. The call allocates no memory.
     ///
-    /// It updates the summary of the cell's block, or drops it. It drops the summary if some cell of the block had a
-    /// fault, even this one. It also drops the summary if the old number was the block's least or greatest, even if the
-    /// new number is the same. The next `remember` then reads the whole block.
+    /// If the cell's block has a stored summary, `put` updates the summary. In two cases it drops the summary instead:
     ///
-    /// Cost: constant, except that a put beyond the places of all earlier ones also writes the places between. All such
-    /// writes together cover the table once at most.
+    /// - Before the call, some cell of the block showed a fault; that may be the cell itself.
+    /// - The cell's old number was the least or the greatest of the block, even if the new number is the same.
+    ///
+    /// After a drop, the next `remember` of the block reads all its cells.
+    ///
+    /// Cost: constant, except that a put beyond the last place of all earlier puts also writes the places between. All
+    /// these writes together cover the table once at most.
     #[inline(always)]
     pub fn put(&mut self, cell: Cell, kept: Kept) -> Kept
         ensures shown { shown_at self.new ≡ with_value (shown_at self.old) cell (value_of kept) }

@@ -10,7 +10,7 @@ pub enum SquashFault {
     /// Out of memory; nothing was written.
     Memory,
     /// The line with this number, counted from 1, is faulty: it isn't empty, has no digest, is no delta's line, and
-    /// isn't a first line that names the replica. Nothing was written. 2^64 - 1 stands for that number and more.
+    /// isn't a first line that names the replica. Nothing was written. 2^64 - 1 stands for this number or any greater.
     Line(u64),
     /// The joined state of one cell is too long for a line; nothing was written.
     TooLong,

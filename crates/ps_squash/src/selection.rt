@@ -6,7 +6,7 @@ ghost use Rattle.ps_squash.specs.Selected.{still_after};
 /// The part of the lines that [`squash_in_part`](crate::squash_in_part) takes. A change line is a line with a delta.
 #[derive(Clone, Copy, Debug, PartialEq, Eq)]
 pub struct Selection {
-    /// How many change lines are taken, from the first on; `None` takes all of them.
+    /// The number of change lines to take, counted from the first; `None` takes all change lines.
     pub until: Option<u64>,
     /// The replica whose assignments, counts and choices are left out of each delta; `None` leaves out nothing.
     pub without: Option<u8>,
@@ -43,10 +43,10 @@ impl Selection {
 /// What [`squash_in_part`](crate::squash_in_part) left out of the lines that it read.
 #[derive(Clone, Copy, Debug, PartialEq, Eq)]
 pub struct LeftOut {
-    /// The number of change lines that were read; 2^64 - 1 stands for more, too.
+    /// The number of change lines that were read; 2^64 - 1 stands for this number or any greater.
     pub read: u64,
-    /// The number of change lines that were left out, as they come after the first `Selection::until`; 2^64 - 1 stands
-    /// for more, too.
+    /// The number of change lines that were left out because they come after the first `Selection::until` change lines;
+    /// 2^64 - 1 stands for this number or any greater.
     pub lines: u64,
     /// The number of cells that lost an assignment, a count or a choice of the replica `Selection::without`.
     pub cells: u64,

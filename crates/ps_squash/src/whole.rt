@@ -19,13 +19,13 @@ use ps_grid::Refusal;
 use ps_lines::put_replica_line;
 use std::alloc::Global;
 
-/// Reads the delta lines of a source to its end, writes the join of their deltas as few change lines, and flushes the
-/// sink.
+/// Reads the delta lines of a source to its end, writes the join of their deltas in as few change lines as fit, and
+/// flushes the sink.
 ///
-/// - A delta that is read may have the word `push` before it. Each change line that is written has this word, and as
-///   many cells as fit.
-/// - An empty line and a line with a digest, such as `replica 0123456789abcdef`, say nothing, wherever they stand.
-/// - If the first line names the replica of a kept file, such as `replica 1`, it is written first.
+/// - A delta that is read may have the word `push` before it. Each change line that is written has the word `push`, and
+///   as many cells as fit.
+/// - An empty line and a line with a digest, such as `replica 0123456789abcdef`, are skipped, wherever they stand.
+/// - If the first line names the replica of a kept file, such as `replica 1`, this line is written first.
 ///
 /// Nothing is written before all lines are read.
 ///
@@ -34,7 +34,7 @@ use std::alloc::Global;
 /// - `Line`: the number of the first faulty line. It isn't empty, has no digest, is no delta's line, and isn't a first
 ///   line that names the replica.
 /// - `TooLong`: the joined state of one cell is too long for a line. Only lines in which a replica uses one sequence
-///   for several options can make it so long, and no sheet writes such lines.
+///   number for several options can make a state that long, and no sheet writes such lines.
 /// - `Memory`: out of memory.
 /// - `Source`: the source failed.
 /// - `Sink`: the sink failed, perhaps after a beginning of the text. After any other error nothing was written.
@@ -71,10 +71,11 @@ pub fn squash<S: Source, K: Sink>(
     }
 }
 
-/// Squashes the selected part of a source's lines, as [`squash`] does all of them, and returns what was left out.
+/// Squashes the selected part of a source's lines, as [`squash`] squashes all lines, and returns what was left out.
 ///
-/// It takes the deltas of the first `selection.until` change lines, without what the replica `selection.without`
-/// assigned, counted and chose. It also reads the lines after them, and refuses them if one is faulty.
+/// The function takes the deltas of the first `selection.until` change lines, without what the replica
+/// `selection.without` assigned, counted and chose. The later lines are read, but not taken. If one of these is
+/// faulty, the function fails.
 ///
 /// # Errors
 ///

@@ -1,5 +1,5 @@
-//! Reads the token at the front of a text. A function that finds a token, or a piece of one, returns it with the text
-//! after it.
+//! Reads the token at the front of a text. A function that reads a token, or a part of a token, also returns the text
+//! after what it read.
 
 ghost use Rattle.std.specs.Prelude.{◌≡◌, ◌<◌, ◌≤◌, ◌^◌, drop, length, slice_index, IfSome, pos};
 ghost use Rattle.std.specs.Option.{option_map};
@@ -30,7 +30,7 @@ pub(crate) fn from(text: &[u8], place: usize) -> &[u8]
     }
 }
 
-/// Returns the text after its first byte if that is `byte`, else `None`.
+/// Returns the text after its first byte if the first byte is `byte`; otherwise `None`.
 #[tactic(auto, unfolding(crate::specs::Inside::Lexing::after))]
 fn after(byte: u8, text: &[u8]) -> Option<&[u8]>
     ensures { option_map (λ rest. rest.now) result ≡ after byte text.now }

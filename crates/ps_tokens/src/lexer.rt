@@ -18,14 +18,14 @@ fn is_blank(byte: u8) -> bool
     byte == b' ' || byte == b'\t' || byte == b'\n' || byte == b'\r'
 }
 
-/// Returns a list of tokens that the text spells, with blanks anywhere between them.
+/// Returns a list of tokens that the text spells. Blanks, tabs and line ends may stand around each token.
 ///
 /// The text is read from the left, the longest token first, so `<=` is one operator and `12` one numeral. If the text
 /// spells a list in which no two neighbours could be read as one token, the result is that list.
 ///
 /// # Errors
 ///
-/// - `Formula`: the text spells no list without such neighbours.
+/// - `Formula`: no token can be read somewhere in the text, such as at an unknown name or a numeral of 2^63 or more.
 /// - `Memory`: out of memory.
 ///
 /// Cost: linear in the bytes, one allocation.

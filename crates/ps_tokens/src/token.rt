@@ -10,25 +10,25 @@ use ps_grid::{Cell, Rect};
 pub enum Function {
     /// `SUM`: the exact sum of the numbers in its arguments.
     Sum,
-    /// `MIN`: the least number in its arguments.
+    /// `MIN`: the least number in its arguments; 0 if there are no numbers.
     Min,
-    /// `MAX`: the greatest number in its arguments.
+    /// `MAX`: the greatest number in its arguments; 0 if there are no numbers.
     Max,
-    /// `COUNT`: how many numbers its arguments have.
+    /// `COUNT`: how many numbers there are in its arguments.
     Count,
-    /// `IF`: one of two arguments, chosen by a condition.
+    /// `IF`: the second argument unless the first is 0; otherwise the third, or 0 without a third.
     If,
-    /// `MOD`: the remainder, with the sign of the divisor.
+    /// `MOD`: the remainder of a division, with the sign of the divisor.
     Mod,
-    /// `QUOTIENT`: the quotient, cut towards zero.
+    /// `QUOTIENT`: the quotient of a division, rounded towards zero.
     Quotient,
-    /// `ABS`: the magnitude.
+    /// `ABS`: the argument without its sign.
     Abs,
-    /// `AND`: whether all arguments hold.
+    /// `AND`: 1 if no argument is 0; otherwise 0.
     And,
-    /// `OR`: whether at least one argument holds.
+    /// `OR`: 1 if some argument isn't 0; otherwise 0.
     Or,
-    /// `NOT`: whether the argument doesn't hold.
+    /// `NOT`: 1 if the argument is 0; otherwise 0.
     Not,
     /// `TRUE`: 1.
     True,
@@ -36,7 +36,7 @@ pub enum Function {
     False,
 }
 
-/// All functions.
+/// All functions of the formula language.
 pub const FUNCTIONS: [Function; 13] = [
     Function::Sum,
     Function::Min,
@@ -53,7 +53,8 @@ pub const FUNCTIONS: [Function; 13] = [
     Function::False,
 ];
 
-/// An operator of the formula language. Plus and minus stand before an operand or between two.
+/// An operator of the formula language. An operator stands between two operands. Plus and minus can also stand before
+/// one operand, as its sign.
 #[derive(Clone, Copy, Debug, PartialEq, Eq)]
 pub enum Operator {
     /// `+`
@@ -76,14 +77,14 @@ pub enum Operator {
     GreaterOrEqual,
 }
 
-/// A token of a formula: its meaning, whatever its spelling.
+/// A token of a formula. A token holds a meaning and not the spelling: `007` and `7` are the same token.
 #[derive(Clone, Copy, Debug, PartialEq, Eq)]
 pub enum Token {
     /// A whole number, from 0 to 9223372036854775807.
     Numeral(i64),
     /// A reference to a cell, such as `[.A1]`.
     Reference(Cell),
-    /// A range of cells, such as `[.A1:.B3]`: the rectangle between its corners.
+    /// A range of cells, such as `[.A1:.B3]`: the rectangle that has the two cells as opposite corners.
     Range(Rect),
     /// The name of a function.
     Name(Function),

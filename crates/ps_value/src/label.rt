@@ -14,9 +14,10 @@ use crate::LABEL_BYTES;
 use std::cmp::Ordering;
 use std::marker::Model;
 
-/// A short text of one line: 1 to 64 bytes of UTF-8, without the bytes below 32 and without 127.
+/// A short text of one line: 1 to 64 bytes of UTF-8, none of them below 32 or equal to 127 (control characters).
 ///
-/// The bytes lie in the value itself, so a label is `Copy` and takes no memory. Labels are ordered by their bytes.
+/// The bytes lie in the label itself, so a label is `Copy` and takes no memory on the heap. Labels are ordered by their
+/// bytes.
 #[derive(Clone, Copy)]
 pub struct Label {
     /// the bytes, and zeros after them
@@ -42,7 +43,7 @@ impl Model for Label {
 }
 
 impl Label {
-    /// Returns the label with these bytes; `None` if a label can't have them.
+    /// Returns the label with these bytes; `None` if the bytes aren't a text that a [`Label`] can have.
     ///
     /// Cost: linear in the bytes, no memory.
     pub fn new(bytes: &[u8]) -> Option<Label>
@@ -58,7 +59,7 @@ impl Label {
         })
     }
 
-    /// Returns the bytes of the text.
+    /// Returns the bytes of the label's text, 1 to 64.
     pub fn bytes(&self) -> &[u8]
         ensures bytes { result.now ≡ self.now }
         ensures label { IsLabel self.now }

@@ -4,17 +4,17 @@ ghost use Rattle.ps_value.specs.Operand.{operand_of};
 
 use crate::value::{Fault, Value};
 
-/// What a formula reads from the value of a cell. Of a text it reads no bytes, and of a choice only how many options
-/// are chosen.
+/// What a formula reads from the value of a cell. A formula sees that a text is there, without its bytes, and sees only
+/// how many options of a choice are chosen.
 #[derive(Clone, Copy, PartialEq, Eq, Debug)]
 pub enum Operand {
     /// An empty cell.
     Empty,
     /// A text.
     Text,
-    /// A number, or how many options are chosen.
+    /// A number, or for a choice how many options are chosen.
     Num(i64),
-    /// A fault in place of a number.
+    /// The fault that the cell shows, such as `#DIV/0!`.
     Err(Fault),
 }
 

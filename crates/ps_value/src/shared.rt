@@ -10,7 +10,7 @@ use std::alloc::Global;
 use std::marker::Model;
 use std::sync::Arc;
 
-/// A label on the heap with any number of owners. In contracts it is the bytes of the label.
+/// A label on the heap with any number of owners. Contracts see the bytes of the label.
 #[derive(Drop)]
 pub struct SharedLabel {
     label: Arc<Label>,

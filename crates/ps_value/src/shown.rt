@@ -11,8 +11,8 @@ use ps_grid::Refusal;
 
 /// Writes the text that a cell with this value shows.
 ///
-/// An empty cell shows nothing, a number its decimal digits, a text its bytes, and a fault its name, as `#DIV/0!`. A
-/// choice shows its options, ascending, as `{1,4}`.
+/// An empty cell shows nothing, a number shows in decimal, a text as its bytes, and a fault as its name, such as
+/// `#DIV/0!`. A choice shows the numbers of its chosen options in ascending order, such as `{1,4}`.
 ///
 /// Refused as `Device` if the sink failed. The beginning of the text may then have been written.
 ///

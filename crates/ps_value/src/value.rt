@@ -1,16 +1,16 @@
 //! What a cell shows.
 use crate::label::Label;
 
-/// Why a cell shows no number.
+/// Why a formula has no number. The formula's cell shows the fault's name instead.
 #[derive(Clone, Copy, PartialEq, Eq, Debug)]
 pub enum Fault {
-    /// A division by zero.
+    /// `#DIV/0!`: a division by zero.
     DivZero,
-    /// A number outside the 64-bit range.
+    /// `#NUM!`: a number outside the signed 64-bit range.
     Num,
-    /// A text where a number is wanted.
+    /// `#VALUE!`: a text where a formula needs a number.
     Value,
-    /// References that lead into a cycle.
+    /// `#CYCLE!`: references that lead into a cycle.
     Cycle,
 }
 
@@ -27,6 +27,6 @@ pub enum Value {
     Text(Label),
     /// The options that are chosen: bit k stands for option k.
     Choice(u64),
-    /// A fault in place of a number.
+    /// The fault of a formula that has no number.
     Err(Fault),
 }

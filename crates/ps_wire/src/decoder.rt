@@ -18,26 +18,26 @@ use ps_grid::Refusal;
 use serde_json::Value;
 use std::alloc::Global;
 
-/// Reads the lines of deltas, one after another. It stores nothing between two lines.
+/// A reader of delta lines, one after another. It stores nothing between two lines.
 #[derive(Drop)]
 pub struct Decoder {}
 
 impl Decoder {
-    /// Creates a decoder.
+    /// Creates a decoder. It allocates nothing.
     pub fn new(_alloc: Global) -> Decoder {
         Decoder {}
     }
 
     /// Returns the delta that the line `bytes` stands for. The line is JSON in any spelling, with any blanks and
-    /// escapes, in at most `DELTA_LINE_LIMIT` bytes of UTF-8. A refusal has no effect on the next line.
+    /// escapes, in at most `DELTA_LINE_LIMIT` bytes of UTF-8. After a refusal the decoder reads the next line as usual.
     ///
     /// # Errors
     ///
-    /// - `Delta`: the bytes are no delta's line.
+    /// - `Delta`: the bytes stand for no delta, or are too long for a line.
     /// - `Memory`: out of memory.
     ///
-    /// Cost: O(b) in the b bytes of the line. It takes memory for the delta and its text if the line is as `encode`
-    /// writes it; else for the JSON value and the delta.
+    /// Cost: O(b) in the b bytes of the line. A line in the form that `encode` writes takes memory for the delta and
+    /// the delta's text. Any other line takes memory for the JSON value and the delta.
     pub fn decode(&mut self, alloc: Global, bytes: &[u8]) -> Result<Delta, Refusal>
         ensures line { IfOk result (λ d. IsLine bytes.now d) }
         ensures read { (d : Entries) → IsLine bytes.now d
@@ -98,11 +98,11 @@ fn read_value(alloc: Global, bytes: &[u8]) -> Result<Value, Refusal>
 
 /// Returns the delta of a line, as [`Decoder::decode`] does.
 ///
-/// It is for callers with a single line. A session has a [`Decoder`].
+/// This function is for callers with a single line. A session reads its lines by one [`Decoder`].
 ///
 /// # Errors
 ///
-/// As [`Decoder::decode`].
+/// Those of [`Decoder::decode`].
 ///
 /// Cost: that of [`Decoder::decode`].
 pub fn decode(alloc: Global, bytes: &[u8]) -> Result<Delta, Refusal>

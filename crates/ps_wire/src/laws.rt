@@ -4,7 +4,7 @@ ghost use Rattle.ps_wire.specs.Fits.{BatchesFit, DecodedFit, EditsFit, NewsFit};
 ghost use Rattle.ps_wire.specs.Line.{TextsAreOneLine};
 ghost use Rattle.ps_wire.specs.Value.{OneDelta, OneValue};
 
-/// States that no two JSON values stand for one delta, and no two deltas for one JSON value.
+/// States that each delta has at most one JSON value, and that each JSON value stands for at most one delta.
 #[tactic(auto, using(crate::proofs::OneDeltaLemmas::one_value, crate::proofs::OneDeltaLemmas::one_delta))]
 pub fn values_and_deltas_agree()
     ensures one_value { OneValue }
@@ -13,8 +13,8 @@ pub fn values_and_deltas_agree()
 
 /// States that the delta of an edit is never too long for a line.
 ///
-/// An edit makes one cell with any register, any counts and any pairs of one option, or a batch of contents for at most
-/// as many cells as a row has.
+/// The delta of an edit has one cell, with any register, any counts and any pairs of one option (a pair is an option
+/// and the tag of its choice). The delta of a batch has contents for at most as many cells as a row has.
 pub fn edited_lines_fit()
     ensures batches { BatchesFit }
     ensures edits { EditsFit }
@@ -26,7 +26,8 @@ pub fn decoded_lines_fit()
     ensures { DecodedFit }
 {}
 
-/// States that the part of a delta that is new to a state has no longer line than the delta, whatever the state.
+/// States that the news of a delta, the part that is new to a state, has a compact text no longer than the delta's,
+/// whatever the state.
 pub fn news_lines_fit()
     ensures { NewsFit }
 {}

@@ -20,13 +20,13 @@ use ps_delta::{CellState, Delta};
 use ps_grid::{Cell, NAME_BYTES};
 use ps_lattice::{Count, Pair, Register};
 
-/// Returns true if the delta holds so much that no join with it has a line.
+/// Returns true if the delta holds so much that every join of it with other deltas is too long for a line.
 ///
-/// It counts the delta's text with each register as `null`, since a join may bring a shorter register. Joins never
-/// shorten the rest. If the result is false, a join with a line may exist or not.
+/// The function counts the bytes of the delta's text with each register as `null`, since a join may bring a shorter
+/// register. Joins never shorten the rest of the text. If the result is false, a join may still be too long for a line.
 ///
-/// Cost: at most that of the cells, counts and pairs that one line can hold, however many the delta has. It takes no
-/// memory.
+/// Cost: at most that of the cells, counts and pairs that one line can hold, however many the delta has. The function
+/// takes no memory.
 pub fn outgrows_line(delta: &Delta) -> bool
     ensures lasting { IsTrue result ↔ (DELTA_LINE_LIMIT < lasting_size delta.now) }
     ensures outgrows { OnTrue result (OutgrowsLine delta.now) }

@@ -20,8 +20,8 @@ use std::alloc::Global;
 /// - `TooLong`: the text has more than `DELTA_LINE_LIMIT` bytes.
 /// - `Memory`: out of memory.
 ///
-/// Cost: O(t) in the t bytes of the text, and memory for them, twice if `line` isn't empty. A text that is too long
-/// costs at most O(`DELTA_LINE_LIMIT`), and no memory.
+/// Cost: O(t) in the t bytes of the text. The call takes memory for the text and, if `line` isn't empty, once more to
+/// append the text. A text that is too long costs at most O(`DELTA_LINE_LIMIT`), and no memory.
 #[tactic(auto, using(crate::proofs::SentLemmas::text_is_line))]
 pub fn encode(alloc: Global, delta: &Delta, line: &mut Vec<u8>) -> Result<(), Refusal>
     ensures appended { OnOk result (line.new.items ≡ line.old.items ++ delta_text delta.now) }

@@ -26,10 +26,10 @@ const BRIEF_CELL: usize = 62;
 /// How many brief cells always fit in a line, with the line's two brackets.
 const BRIEF_CELLS: usize = (DELTA_LINE_LIMIT - 2) / BRIEF_CELL;
 
-/// Returns whether the compact text of the delta is short enough for a line.
+/// Returns whether the compact text of the delta has at most `DELTA_LINE_LIMIT` bytes, so that it fits a line.
 ///
-/// Cost: at most that of the cells, counts and pairs that one line can hold, however many the delta has. It takes no
-/// memory.
+/// Cost: at most that of the cells, counts and pairs that one line can hold, however many the delta has. The function
+/// takes no memory.
 #[tactic(auto, unfolding(crate::specs::Line::delta_text, crate::specs::Value::delta_value))]
 pub fn fits_line(delta: &Delta) -> bool
     ensures { IsTrue result ↔ FitsLine delta.now }

@@ -20,15 +20,16 @@ use std::alloc::Global;
 /// A number of cells whose floors always fit one line.
 const FEW_CELLS: usize = 512;
 
-/// Returns how many deltas, from the first on and `most` at most, may share a line.
+/// Returns how many of the first `most` deltas, counted from the first delta on, may share a line as their join.
 ///
-/// The number is an upper bound. A join of more of the first `most` deltas is too long for a line, and a join of that
-/// many may be, too. The bound is found without a join, from the shortest content that these deltas have for each cell.
+/// The number is an upper bound. A join of more of the first `most` deltas is too long for a line. A join of exactly
+/// this number of deltas may be too long or not. The function finds the bound without a join, from the shortest content
+/// that these deltas have for each cell.
 ///
 /// Fails only when out of memory.
 ///
 /// Cost: linear in the cells of the deltas and of the grid, and memory for one number per cell of the grid. With one
-/// delta, or at most 512 cells in all, linear in the number of deltas, and no memory.
+/// delta, or at most 512 cells in all deltas, linear in the number of deltas, and no memory.
 pub fn may_share_line(alloc: Global, deltas: &[Delta], most: usize) -> Result<usize, Refusal>
     ensures most { IfOk result (λ n. n ≤ most) }
     ensures within { IfOk result (λ n. n ≤ length deltas.now) }

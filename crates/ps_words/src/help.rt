@@ -1,115 +1,115 @@
-//! What `--help` prints.
+//! The texts that `--help` prints.
 
-/// What `--workers` means, with the range 1 to `WORKERS`.
+/// The help text of `--workers`. It has the range 1 to `WORKERS`.
 pub const WORKERS_HELP: &str =
     "how many threads may evaluate formulas, 1 to 16; no reply depends on it";
 
-/// What `--replica` means, with the range 1 to `REPLICAS`.
+/// The help text of `--replica`. It has the range 1 to `REPLICAS`.
 pub const REPLICA_HELP: &str = "the number of this replica, 1 to 32";
 
-/// What `--port` means.
+/// The help text of `--port` of `serve`.
 pub const PORT_HELP: &str = "the port of this machine to listen on, 1 to 65535";
 
-/// What `--sessions` means, with the range 1 to `MOST_SESSIONS`.
+/// The help text of `--sessions` of `serve`. It has the range 1 to `MOST_SESSIONS`.
 pub const SESSIONS_HELP: &str =
     "how many sessions to serve before it ends, 1 to 1000000; without it, until it is stopped";
 
-/// What `--seats` means, with the range 1 to `SEATS`.
+/// The help text of `--seats` of `serve`: how many slots it has. It has the range 1 to `SEATS`.
 pub const SEATS_HELP: &str =
     "how many sessions to serve at a time, 1 to 256; each adds 40 instructions to a change, free or not";
 
-/// What `--wait` means, with the range 0 to `LONGEST_WAIT`.
+/// The help text of `--wait` of `serve`. It has the range 0 to `LONGEST_WAIT`, in seconds.
 pub const WAIT_HELP: &str = "how many seconds a connection may wait for a seat, 0 to 60";
 
-/// What `--idle` means, with the range 1 to `LONGEST_IDLE`.
+/// The help text of `--idle` of `serve`. It has the range 1 to `LONGEST_IDLE`, in seconds.
 pub const IDLE_HELP: &str =
     "how many seconds a peer may be silent, 1 to 86400; without it, 30 until its first line, then no limit, or 300 for a browser";
 
-/// What `--keep` means.
+/// The help text of `--keep` of `run` and `serve`.
 pub const KEEP_HELP: &str =
     "the file that the sheet is kept in: it is read at the start, and grows with each change";
 
-/// What `--squash` means.
+/// The help text of `--squash` of `run` and `serve`.
 pub const SQUASH_FIRST_HELP: &str =
     "squashes the file of --keep first, if that makes it at most half as long";
 
-/// What `--keep` of `squash` means.
+/// The help text of `--keep` of `squash`.
 pub const SQUASHED_HELP: &str =
     "the kept file that is squashed in its place, while no other program has it";
 
-/// What `--until` means, with the range 1 to `MOST_CHANGES`.
+/// The help text of `--until` of `squash`. It has the range 1 to `MOST_CHANGES`.
 pub const UNTIL_HELP: &str =
     "takes only so many change lines, from the first on, 1 to 1000000000; without it, all";
 
-/// What `--without` means, with the range 1 to `REPLICAS`.
+/// The help text of `--without` of `squash`. It has the range 1 to `REPLICAS`.
 pub const WITHOUT_HELP: &str =
     "leaves out what this replica assigned, counted and chose, 1 to 32; without it, nothing";
 
-/// What `--from` of `sync` means.
+/// The help text of `--from` of `sync`.
 pub const FROM_HELP: &str = "the port of the replica whose deltas are pulled, 1 to 65535";
 
-/// What `--to` means.
+/// The help text of `--to` of `sync`.
 pub const TO_HELP: &str = "the port of the replica that takes them in, 1 to 65535";
 
-/// What `--from` of `join` means.
+/// The help text of `--from` of `join`.
 pub const JOINED_FIRST_HELP: &str =
     "the port of the replica whose changes go to the other one first, 1 to 65535, or -";
 
-/// What `--to` of `join` means.
+/// The help text of `--to` of `join`.
 pub const JOINED_SECOND_HELP: &str = "the port of the other replica, 1 to 65535, or -";
 
-/// What `--with` means.
+/// The help text of `--with`.
 pub const RELAYED_HELP: &str =
     "the port of the replica that --lines merges at, and whose changes it writes, 1 to 65535";
 
-/// What `--lines` means.
+/// The help text of `--lines`.
 pub const LINES_HELP: &str =
     "merges the lines of standard input, and writes what others change as such lines";
 
-/// What `--once` means.
+/// The help text of `--once`.
 pub const ONCE_HELP: &str = "ends once each replica has all that the other one had";
 
-/// What `--check` means.
+/// The help text of `--check`.
 pub const CHECK_HELP: &str = "says whether both replicas hold the same, and merges nothing";
 
-/// What `--from` of `follow` means.
+/// The help text of `--from` of `follow`.
 pub const FOLLOWED_HELP: &str = "the port of the replica that is followed, 1 to 65535";
 
-/// What `--after` means, with the range 0 to `MOST_CHANGES`.
+/// The help text of `--after` of `follow`. It has the range 0 to `MOST_CHANGES`.
 pub const AFTER_HELP: &str = "passes over so many changes, from the first on, 0 to 1000000000";
 
-/// What `--until-now` means.
+/// The help text of `--until-now`.
 pub const UNTIL_NOW_HELP: &str = "ends once all that the replica has is written";
 
-/// What `--every` means, with the range 1 to `LONGEST_PAUSE`.
+/// The help text of `--every` of `follow`. It has the range 1 to `LONGEST_PAUSE`, in milliseconds.
 pub const EVERY_HELP: &str =
     "has no effect any more, as each change comes at once; milliseconds, 1 to 60000";
 
-/// What `--to` of `talk` means.
+/// The help text of `--to` of `talk`.
 pub const TALKED_HELP: &str = "the port of the server that is asked, 1 to 65535";
 
-/// What `--title` means.
+/// The help text of `--title`.
 pub const TITLE_HELP: &str =
     "the title of the page; without it, the name of the kept file, or what A1 shows";
 
-/// What `--explain` means.
+/// The help text of `--explain` of `run` and `table`.
 pub const EXPLAIN_HELP: &str =
     "prints on standard error what is refused or looks like a number, with a hint";
 
-/// What `--explain` of a command with a port means.
+/// The help text of `--explain` of a command with a port.
 pub const PORT_EXPLAIN_HELP: &str = "prints on standard error why a port can't be used";
 
-/// What `--explain` of `talk` means.
+/// The help text of `--explain` of `talk`.
 pub const TALK_EXPLAIN_HELP: &str =
     "prints on standard error what is refused or looks like a number, and why a port can't be used";
 
-/// What `--strict` means.
+/// The help text of `--strict`.
 pub const STRICT_HELP: &str = "ends with status 3 if a line was refused";
 
-/// What `--entries` means.
+/// The help text of `--entries`.
 pub const ENTRIES_HELP: &str = "writes the entries of the cells instead of what they show";
 
-/// What stands below the commands of `sheet --help`: an example of each, and the refusals.
+/// The text below the commands in the output of `sheet --help`: an example of each, and the refusals.
 pub const SHEET_HELP: &str = "\
 Examples:
 
@@ -151,7 +151,7 @@ A refusal changes nothing, and is printed as `err`, a number and a name:
 With `--explain`, `run`, `table` and `talk` print each refusal's line or cell with a
 hint, and the commands that have a port print why that port can't be used.";
 
-/// What stands below the options of `sheet run --help`.
+/// The text below the options in the output of `sheet run --help`.
 pub const RUN_HELP: &str = "\
 Each line of standard input is a command, and has a reply on standard output:
 
@@ -191,7 +191,7 @@ before its `ok` is written. The file is text, a line `replica` and change lines,
 `sheet run < plan.lines` shows the sheet, too. Standard error gets the name of the
 file and the number of its changes: `opened plan.lines, 306 changes`.";
 
-/// What stands below the options of `sheet table --help`.
+/// The text below the options in the output of `sheet table --help`.
 pub const TABLE_HELP: &str = "\
 Standard input is a table of CSV: its first record goes to row 1, its first field
 to column A. A field is an entry, as in `set`: a number, a formula, a text. The
@@ -210,7 +210,7 @@ writes
   sheet table --entries --workers 4 < plan.csv > again.csv
   sheet table --explain < plan.csv > shown.csv";
 
-/// What stands below the options of `sheet serve --help`.
+/// The text below the options in the output of `sheet serve --help`.
 pub const SERVE_HELP: &str = "\
 It opens a sheet, which is empty unless the file of `--keep` has changes, listens on
 this machine, 127.0.0.1, and writes `listening` and the port. Each connection is a
@@ -242,7 +242,7 @@ each of them with a `set`, and have ended
   sheet serve --port 7001 --workers 4 --explain
   sheet serve --port 7001 --keep plan.lines --squash --title 'Our plan'";
 
-/// What stands below the options of `sheet sync --help`.
+/// The text below the options in the output of `sheet sync --help`.
 pub const SYNC_HELP: &str = "\
 Both replicas listen on this machine, 127.0.0.1. All deltas of the first are
 pulled, from version 0 on, up to 16 in a line, and each line is pushed to the
@@ -260,7 +260,7 @@ writes
 
   sheet sync --from 7002 --to 7001 --explain";
 
-/// What stands below the options of `sheet join --help`.
+/// The text below the options in the output of `sheet join --help`.
 pub const JOIN_HELP: &str = "\
 Both replicas listen on this machine, 127.0.0.1. All that the first one has is
 merged at the second one, and then all that the second one has at the first. After
@@ -309,7 +309,7 @@ command ends. So one process is enough for a broker's topic:
 
   mosquitto_sub -t plan | sheet join --with 7001 --lines | mosquitto_pub -l -t plan";
 
-/// What stands below the options of `sheet follow --help`.
+/// The text below the options in the output of `sheet follow --help`.
 pub const FOLLOW_HELP: &str = "\
 The replica listens on this machine, 127.0.0.1. All that it has is written on
 standard output, from the first change on or after the first ones that --after
@@ -332,7 +332,7 @@ last is one for earlier versions. A line is such as
 
   push [[\"A1\",[1,1,\"5\"],[],[]]]";
 
-/// What stands below the options of `sheet talk --help`.
+/// The text below the options in the output of `sheet talk --help`.
 pub const TALK_HELP: &str = "\
 The server listens on this machine, 127.0.0.1. Each line of standard input is sent
 there, and its reply is written on standard output, whole, before the next line is
@@ -357,7 +357,7 @@ writes
 
 At a terminal, as in the second one, type a line and read its reply; Ctrl-D ends it.";
 
-/// What stands below the options of `sheet squash --help`.
+/// The text below the options in the output of `sheet squash --help`.
 pub const SQUASH_HELP: &str = "\
 Each line of standard input is the line of a delta, with or without `push ` before
 it. What they say together is written as change lines, cell after cell, as many cells

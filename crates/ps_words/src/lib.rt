@@ -1,9 +1,9 @@
-//! The program's command line: its commands, their options, and what `--help` says of each.
+//! The program's command line: its commands, their options, and the texts that `--help` prints.
 //!
-//! It is not the program: it runs no command, and whoever calls it gives it the words.
+//! This crate is not the program: it runs no command, and the caller passes the words of the command line.
 //!
-//! The contract to use is that of [`read_words`]: the command, its numbers, texts and flags are those that `clap` finds
-//! in the words. Each number is in its range.
+//! The contract to use is that of [`read_words`]: the command and its numbers, texts and flags are those that `clap`
+//! finds in the words. The types of options promise that each number is in its range.
 //!
 //! From the words `sheet run --replica 2`, [`read_words`] returns the options of `run` with one worker, replica 2, and
 //! no flag set.

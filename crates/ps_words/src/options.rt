@@ -5,13 +5,14 @@ ghost use Rattle.ps_grid.specs.declared.parties.TheConstants.{REPLICAS, SEATS, W
 ghost use Rattle.ps_words.specs.declared.options.TheConstants.{LONGEST_IDLE, LONGEST_PAUSE};
 ghost use Rattle.ps_words.specs.declared.options.TheConstants.{LONGEST_WAIT, MOST_CHANGES, MOST_SESSIONS};
 
-/// The most sessions that `serve` can be asked for.
+/// The greatest value of `--sessions` of `serve`: after how many sessions it ends.
 pub const MOST_SESSIONS: u32 = 1_000_000;
 
-/// The longest that a connection may wait for a slot, in seconds.
+/// The greatest value of `--wait` of `serve`, in seconds: how long a connection waits for a free slot.
 pub const LONGEST_WAIT: u8 = 60;
 
-/// The greatest value of `--idle` of `serve`, in seconds: a day. A session ends once its peer was silent for so long.
+/// The greatest value of `--idle` of `serve`, in seconds: one day. A session ends once its peer has sent nothing for
+/// the seconds of `--idle`.
 pub const LONGEST_IDLE: u32 = 86_400;
 
 /// The greatest value of `--every` of `follow`, in milliseconds. The option has no effect any more.
@@ -36,11 +37,13 @@ pub struct SheetOptions {
 /// The options of `sheet run`.
 #[derive(Clone, Copy, PartialEq, Eq)]
 pub struct RunOptions<'a> {
-    /// The options of its sheet.
+    /// The options of the sheet that the command opens.
     pub sheet: SheetOptions,
-    /// The path of the file that the sheet's changes are read from and appended to; none for a sheet in memory alone.
+    /// The path of the kept file, which the sheet's changes are read from and appended to; `None` for a sheet in memory
+    /// only.
     pub keep: Option<&'a str>,
-    /// Whether standard error gets a hint for each line that is refused or looks like a number.
+    /// Whether standard error gets a hint for each line that is refused, or whose entry looks like a number or a
+    /// formula but is a text.
     pub explain: bool,
     /// Whether the exit status is 3 if a line was refused.
     pub strict: bool,
@@ -53,7 +56,8 @@ pub struct TableOptions {
     pub workers: u8,
     /// Whether the output has what each cell holds (a formula, say) instead of what it shows.
     pub entries: bool,
-    /// Whether standard error gets a hint for each field that is refused or looks like a number.
+    /// Whether standard error gets a hint for each field that is refused, or that looks like a number or a formula but
+    /// is a text.
     pub explain: bool,
     ghost workers_in_range: { (1 ≤ workers) × (workers ≤ WORKERS) },
 }
@@ -63,21 +67,24 @@ pub struct TableOptions {
 pub struct ServeOptions<'a> {
     /// The port to listen on, 1 or more.
     pub port: u16,
-    /// The options of its sheet.
+    /// The options of the sheet that the command opens.
     pub sheet: SheetOptions,
-    /// The path of the file that the sheet's changes are read from and appended to; none for a sheet in memory alone.
+    /// The path of the kept file, which the sheet's changes are read from and appended to; `None` for a sheet in memory
+    /// only.
     pub keep: Option<&'a str>,
-    /// The title of the page; none for the kept file's name, or for what A1 shows.
+    /// The title of the sheet's page. If it is `None`, the title is the kept file's name, or without a kept file what
+    /// A1 shows.
     pub title: Option<&'a str>,
-    /// How many sessions to serve, 1 to `MOST_SESSIONS`; none to serve until the program is stopped.
+    /// How many sessions to serve before the program ends, 1 to `MOST_SESSIONS`; `None` to serve until it is stopped.
     pub sessions: Option<u32>,
-    /// How many sessions to serve at a time, 1 to `SEATS`.
+    /// The number of slots, 1 to `SEATS`: how many sessions are served at a time.
     pub seats: u16,
-    /// How many seconds a connection waits for a slot, up to `LONGEST_WAIT`.
+    /// How many seconds a connection waits for a free slot, 0 to `LONGEST_WAIT`.
     pub wait: u8,
     /// How many seconds a peer may be silent before its session ends, 1 to `LONGEST_IDLE`.
     ///
-    /// If it is none, a peer has 30 seconds for its first line, and no limit after it; a browser has 5 minutes.
+    /// If it is `None`, a peer has 30 seconds for its first line, and no limit after it. A browser may be silent for 5
+    /// minutes.
     pub idle: Option<u32>,
     /// Whether standard error gets the reason if a port can't be used.
     pub explain: bool,
@@ -108,9 +115,10 @@ pub struct JoinOptions {
     pub from: u16,
     /// The port of the other replica, 1 or more.
     pub to: u16,
-    /// Whether the command ends once each replica has all that the other one had.
+    /// Whether the command ends once each replica has all changes that the other one had. With neither `once` nor
+    /// `check`, the command merges new changes until it is stopped.
     pub once: bool,
-    /// Whether the command only reports which cells differ, and merges nothing.
+    /// Whether the command only reports which cells of the two replicas differ, and merges nothing.
     pub check: bool,
     /// Whether standard error gets the reason if a port can't be used.
     pub explain: bool,
@@ -122,23 +130,24 @@ pub struct JoinOptions {
 /// The options of `sheet join` between a port and `-`, the replica behind standard input and output.
 #[derive(Clone, Copy, PartialEq, Eq)]
 pub struct PipeOptions {
-    /// Whether `-` is `--from`: the changes of the replica behind standard input and output are merged first.
+    /// Whether `-` is the value of `--from`, and not of `--to`. The changes of the `--from` replica are merged first.
     pub is_first: bool,
-    /// The port of the other replica, 1 or more.
+    /// The port of the replica that isn't behind standard input and output, 1 or more.
     pub port: u16,
-    /// Whether the command ends once each replica has all that the other one had.
+    /// Whether the command ends once each replica has all changes that the other one had; if not, it merges new changes
+    /// until an end is lost.
     pub once: bool,
     /// Whether standard error gets the reason if the port can't be used.
     pub explain: bool,
     ghost port_in_range: { 1 ≤ port },
 }
 
-/// The options of `sheet join --with --lines`.
+/// The options of `sheet join --with --lines`, which merges the lines of standard input at one replica.
 #[derive(Clone, Copy, PartialEq, Eq)]
 pub struct RelayOptions {
-    /// The port of the replica, 1 or more.
+    /// The port of the replica that the lines are merged at, 1 or more.
     pub server: u16,
-    /// Whether the command ends when its connection is lost; if not, it connects again.
+    /// Whether the command ends when its connection is lost, or a request refused; if not, it connects again.
     pub once: bool,
     /// Whether standard error gets the reason if the port can't be used.
     pub explain: bool,
@@ -150,9 +159,9 @@ pub struct RelayOptions {
 pub struct FollowOptions {
     /// The port of the replica that is followed, 1 or more.
     pub from: u16,
-    /// How many of the replica's changes are skipped, from the first on, at most `MOST_CHANGES`.
+    /// How many of the replica's changes are skipped, counted from its first one, 0 to `MOST_CHANGES`.
     pub after: u32,
-    /// Whether the command ends once it has written all that the replica has.
+    /// Whether the command ends once it has written all changes of the replica; if not, it also writes each new change.
     pub until_now: bool,
     /// The milliseconds of `--every`, 1 to `LONGEST_PAUSE`. They have no effect any more.
     pub every: u16,
@@ -166,10 +175,10 @@ pub struct FollowOptions {
 /// The options of `sheet talk`.
 #[derive(Clone, Copy, PartialEq, Eq)]
 pub struct TalkOptions {
-    /// The port of the server that is asked, 1 or more.
+    /// The port of the server that the lines are sent to, 1 or more.
     pub to: u16,
-    /// Whether standard error gets a hint for each line that is refused or looks like a number, and the reason if the
-    /// port can't be used.
+    /// Whether standard error gets a hint for each line that is refused, or whose entry looks like a number or a
+    /// formula but is a text. If the port can't be used, it also gets the reason.
     pub explain: bool,
     ghost to_in_range: { 1 ≤ to },
 }
@@ -177,39 +186,41 @@ pub struct TalkOptions {
 /// The options of `sheet squash`.
 #[derive(Clone, Copy, PartialEq, Eq)]
 pub struct SquashOptions<'a> {
-    /// The path of the kept file that its own squashed lines replace; none to squash standard input.
+    /// The path of the kept file to squash in its place; `None` to squash the lines of standard input.
     pub keep: Option<&'a str>,
-    /// How many change lines are taken, from the first on, 1 to `MOST_CHANGES`; none to take all.
+    /// How many change lines are used, counted from the first one, 1 to `MOST_CHANGES`; `None` to use all.
     pub until: Option<u32>,
-    /// The replica whose assignments, counts and choices are left out, 1 to `REPLICAS`; none to leave out nothing.
+    /// The number of the replica whose assignments, counts and choices are left out, 1 to `REPLICAS`; `None` to leave
+    /// out nothing.
     pub without: Option<u8>,
     ghost until_in_range: { ForSome until (λ n. (1 ≤ n) × (n ≤ MOST_CHANGES)) },
     ghost without_in_range: { ForSome without (λ n. (1 ≤ n) × (n ≤ REPLICAS)) },
     ghost whole_in_place: { IsSome keep → (until ≡ None) × (without ≡ None) },
 }
 
-/// A command with its options.
+/// A command of `sheet` with its options. Each variant says what the command does.
 #[derive(Clone, Copy)]
 pub enum Options<'a> {
-    /// Answers each line of standard input.
+    /// `run`: answers each line of standard input.
     Run(RunOptions<'a>),
-    /// Reads a table and writes its settled values.
+    /// `table`: reads a CSV table, and writes what its cells show, or their entries.
     Table(TableOptions),
-    /// Answers the lines of several sessions over TCP.
+    /// `serve`: answers the lines of several sessions over TCP.
     Serve(ServeOptions<'a>),
-    /// Pushes all changes of one replica to another.
+    /// `sync`: pushes all changes of one replica to another.
     Sync(SyncOptions),
-    /// Merges each of two replicas' changes at the other one, or compares the two.
+    /// `join` between two ports: merges the changes of each replica at the other, or reports which cells differ.
     Join(JoinOptions),
-    /// Merges each of two replicas' changes at the other one: a replica at a port, and one behind standard input and
-    /// output.
+    /// `join` between a port and `-`: merges the changes of each replica at the other. One is at the port, the other
+    /// behind standard input and output.
     Pipe(PipeOptions),
-    /// Merges the `merge` lines of standard input at a replica, and writes the replica's other changes as such lines.
+    /// `join --with --lines`: merges the `merge` lines of standard input at a replica, and writes the replica's other
+    /// changes as `merge` lines.
     Relay(RelayOptions),
-    /// Writes all changes of a replica as change lines.
+    /// `follow`: writes the changes of a replica as change lines.
     Follow(FollowOptions),
-    /// Asks a server each line of standard input.
+    /// `talk`: sends each line of standard input to a server, and writes its replies.
     Talk(TalkOptions),
-    /// Joins the deltas of many lines, and writes them as few change lines.
+    /// `squash`: joins the deltas of many lines, and writes them as few change lines.
     Squash(SquashOptions<'a>),
 }

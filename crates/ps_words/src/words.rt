@@ -448,14 +448,15 @@ fn options_of<'a>(name: &str, matches: &ArgMatches<'a>) -> Option<Options<'a>>
     }
 }
 
-/// Returns the command and the options that the program's words ask for; the first word is the program's own name.
+/// Returns the command and its options that the words of the command line ask for. The first word is the program's own
+/// name.
 ///
-/// The numbers, texts and flags are those that `clap` finds in the words.
+/// All numbers, texts and flags are those that `clap` finds in the words.
 ///
 /// # Errors
 ///
-/// - The words are refused, or ask for help or the version: the error has the text to print and the exit status.
-/// - Out of memory.
+/// - If the words are refused, or ask for help or for the version: the error has the text to print and the exit status.
+/// - If allocation fails: the error that `clap` makes of an `AllocError`.
 ///
 /// Cost: O(n) in the n bytes of the words.
 pub fn read_words<'a>(alloc: Global, words: &'a [String]) -> Result<Options<'a>, Error>
@@ -477,10 +478,10 @@ pub fn read_words<'a>(alloc: Global, words: &'a [String]) -> Result<Options<'a>,
     Ok(options)
 }
 
-/// The message for words that ask for the command `page`.
+/// The message for whoever calls the command `page`, which earlier versions had.
 pub const PAGE_IS_GONE: &str = "sheet page is gone: sheet serve has the page at its own port";
 
-/// Returns whether the word after the program's name is `page`, a command of earlier versions.
+/// Returns whether the first word after the program's name is `page`, a command that earlier versions had.
 pub fn asks_for_page(words: &[String]) -> bool
     ensures { result ≡ asks_for_page (map string_bytes words.now) }
 {

@@ -120,10 +120,10 @@ impl<R: Threads + Sync, F: Formulas + Sync, K: Look + Sync, G: Gate> Task<'_, R,
     }
 }
 
-/// Returns the value of a cell's formula, where each cell shows what `look` says.
+/// Returns the value of a cell's formula, where each cell shows what `look` says. The cell must have a formula.
 ///
-/// It does what `eval_level` does for a level of this one cell. It first calls `gate`, a hook (`Gate`), as worker 0.
-/// `meter` counts one evaluation. It starts no thread and takes no memory.
+/// The call does what `eval_level` does for a level of this one cell, but it starts no thread and allocates no memory.
+/// Before the evaluation it calls the hook `gate` as worker 0. `meter` counts one evaluation.
 ///
 /// Cost: the evaluation.
 #[inline(always)]
@@ -163,13 +163,15 @@ fn eval_as<F: Formulas, K: Look, G: Gate, L: Ledger>(
     }
 }
 
-/// Evaluates the formula of each cell, by at most `workers` workers.
+/// Evaluates the formulas of `cells` with at most `workers` workers at once, and writes their values to `out`. Each of
+/// the cells must have a formula.
 ///
-/// `out[i]` gets the value of the formula of `cells[i]`, where each cell shows what `look` says. The meter counts one
+/// `out[i]` gets the value of the formula of `cells[i]`, where each cell shows what `look` says. `meter` counts one
 /// evaluation for each cell, whatever the number of workers. Each worker evaluates a consecutive part of `cells`, in
-/// order, and calls `gate`, a hook (`Gate`), before each evaluation. The first worker runs in the calling thread. If a
-/// thread can't be started, the thread that would have started it evaluates that part too. It takes no memory except
-/// for the threads.
+/// order, and calls the hook `gate` before each evaluation.
+///
+/// The first worker runs in the calling thread. If the thread of another worker can't be started, the thread that tried
+/// to start it does that worker's evaluations. The call allocates no memory except for the threads.
 ///
 /// Cost: the evaluations, divided evenly, and the start of a thread for each worker but the first.
 // It has eight parameters, since they have different owners.

@@ -1,6 +1,6 @@
-//! The cells of one level, evaluated by several workers at once. A level is a list of cells whose formulas don't refer
-//! to one another. Each worker evaluates a part of them: the first in the caller's thread, the others in threads of
-//! their own.
+//! The evaluation of one level by several workers at once. A level is a list of cells whose formulas don't refer to one
+//! another. Each worker evaluates a part of the cells: the first worker in the caller's thread, and each other worker
+//! in a thread of its own.
 //!
 //! This crate finds no levels, stores no values, and knows no edits. The workers share the formulas and what the cells
 //! show. Each worker writes its values into a part of the output slice that no other worker has.

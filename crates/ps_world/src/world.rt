@@ -21,8 +21,8 @@ use std::thread::Threads;
 
 /// Replicas of one sheet, and the deltas that these replicas made or untrusted peers sent.
 ///
-/// Contracts see a world as a `WorldView`: its deltas and its replicas. The definition of what events do knows no
-/// sheets, only a `WorldState`: the deltas, and which of them each replica took.
+/// Contracts see a world as a `WorldView`: its deltas and its replicas. The definition `played` says what events do. It
+/// knows no sheets, only a `WorldState`: the deltas, and which of the deltas each replica took.
 #[derive(Drop)]
 pub struct World {
     /// in the order of their numbers
@@ -158,9 +158,10 @@ impl World {
         Ok(World { deltas, replicas })
     }
 
-    /// Returns the sheet of a replica, counted from 1; `None` if there is no such replica.
+    /// Returns the sheet of the replica with this number; `None` if there is no such replica. Replicas are counted from
+    /// 1.
     ///
-    /// Nothing in the program calls it. It is part of the public interface, as [`play`] is.
+    /// Only tests call `sheet`, to look at the result of [`play`].
     pub fn sheet(&self, replica: u8) -> Option<&Sheet>
         ensures sheet { option_copied result ≡ option_map (λ x. x.sheet) (replica_at self.now.replicas replica) }
         ensures world { IsWorld self.now }
@@ -168,10 +169,10 @@ impl World {
         Some(self.replica(replica)?.sheet())
     }
 
-    /// Returns the numbers of the deltas that a replica took; `None` if there is no such replica. Replicas and deltas
-    /// are counted from 1.
+    /// Returns the numbers of the deltas that the replica with this number took; `None` if there is no such replica.
+    /// Replicas and deltas are counted from 1.
     ///
-    /// Nothing in the program calls it. It is part of the public interface, as [`play`] is.
+    /// Only tests call `taken`, to look at the result of [`play`].
     pub fn taken(&self, replica: u8) -> Option<&BTreeSet<usize>>
         ensures taken { option_copied result ≡ option_map (λ x. x.taken) (replica_at self.now.replicas replica) }
         ensures world { IsWorld self.now }
@@ -208,8 +209,9 @@ fn numbered(replicas: &[Replica], replica: u8) -> Option<&Replica>
     replicas.get(usize::from(replica) - 1)
 }
 
-/// Plays the events, one after another, on `replicas` empty sheets, 1 to 32, and returns the world that they make. The
-/// sheets are those of replicas 1, 2 and so on.
+/// Plays the events, one after another, in a world of `replicas` empty sheets, and returns the world after the last
+/// event. There may be 1 to 32 replicas, and their numbers are 1, 2 and so on. `meter` counts the evaluations of
+/// formulas in all sheets.
 ///
 /// The contract states the main promise of a replicated sheet for any events:
 ///
@@ -217,14 +219,14 @@ fn numbered(replicas: &[Replica], replica: u8) -> Option<&Replica>
 /// - Each sheet shows the settled values of the join of the deltas that its replica took (`settled`).
 /// - Replicas that took the same deltas show the same (`same`).
 ///
-/// Nothing in the program calls it; tests do. It is part of the public interface because it states this promise.
+/// Only tests call `play`. It is part of the public interface because its contract states this promise.
 ///
-/// An event that names an unknown replica or an unknown delta changes nothing. Neither does an edit that the sheet
-/// refuses, except when out of memory.
+/// An event that names an unknown replica or an unknown delta changes nothing. An edit that the sheet refuses changes
+/// nothing either, unless the sheet is out of memory: then `play` fails.
 ///
 /// # Errors
 ///
-/// - `Refusal::Replica` if `replicas` is out of range.
+/// - `Refusal::Replica` if `replicas` isn't 1 to 32.
 /// - `Refusal::Memory` when out of memory.
 ///
 /// Cost: opening the sheets, and then each edit and each delivery.

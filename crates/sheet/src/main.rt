@@ -5,26 +5,26 @@
 //! - `sheet run` opens an empty sheet and answers each line of standard input on standard output.
 //! - `sheet table` reads a table of CSV and writes the table of its shown values.
 //! - `sheet serve` answers the lines of several connections, side by side and on one sheet, and shows it to browsers.
-//! - `sheet sync` pushes all changes of one replica to another; both listen on this machine.
-//! - `sheet join` merges the changes of each of two such replicas at the other, once or until it is stopped. With
-//!   `--check` it says whether they hold the same.
-//! - `sheet follow` writes the changes of such a replica as change lines.
-//! - `sheet talk` is a session at such a replica.
+//! - `sheet sync` pushes all changes of one replica to another. Both replicas are served on this machine.
+//! - `sheet join` merges the changes of each of two replicas at the other, once or until it is stopped. With `--check`
+//!   it says whether both hold the same.
+//! - `sheet follow` writes the changes of a replica as change lines.
+//! - `sheet talk` sends each line of standard input to a server, and writes its replies.
 //! - `sheet squash` makes few change lines of many delta lines.
 //!
 //! Nothing is stored from one start to the next, except in the file that `--keep` names.
 //!
-//! This crate connects the commands of `ps_commands` with the words, with standard input, output and error, and with
-//! the exit status. The contracts there say what each command does.
+//! This crate connects the commands of `ps_commands` with the words of the command line, with standard input, output
+//! and error, and with the exit status. The contracts of `ps_commands` say what each command does.
 //!
-//! The exit status is 0 if all went well, and 2 if the command line is refused. It is 1 if a device failed, a port
-//! can't be used or another program has the file. For any other refusal it is 3, and if compared replicas differ. A
-//! line that `sheet run` refuses changes it only with `--strict`.
+//! The exit status is 0 if all went well, and 2 if the command line is refused. It is 1 if a device failed, a port or a
+//! file can't be used, or another program has the file. It is 3 for any other refusal, and if `sheet join --check`
+//! finds a difference. A line that `sheet run` refuses makes it 3 only with `--strict`.
 //!
 //! With `set A1 5` and `get A1` on standard input, `sheet run` writes `ok 1` and `val 5`. With
 //! `2,=[.A1]*3`, `sheet table` writes `2,6`.
 //!
-//! Cost: that of the sessions, or of an import and an export.
+//! Cost: that of the lines of the sessions; of an import and an export for `sheet table`.
 #![tactic(auto)]
 
 ghost use Rattle.std.specs.Prelude.{◌≡◌, ◌<◌};

@@ -1,4 +1,4 @@
-//! Standard output, which commands no terminal.
+//! Standard output whose control characters can't change a terminal's state.
 ghost use Rattle.std.specs.Io.{WritesAtMost};
 ghost use Rattle.std.specs.Prelude.{◌≤◌, IfSome, length};
 
@@ -8,8 +8,8 @@ use std::io::Write;
 /// The first byte, in UTF-8, of each control character from U+0080 on.
 const LEAD: u8 = 0xc2;
 
-/// A writer of texts that others typed or sent. At a terminal it spells each control character out, as `\u{9b}` for
-/// U+009B, except line feeds and tabs. Elsewhere every byte passes as it is.
+/// A writer for texts that others typed or sent. If it writes to a terminal, it writes each control character as text,
+/// such as `\u{9b}` for U+009B, but line feeds and tabs as they are. Elsewhere it writes every byte as it is.
 #[derive(Drop)]
 pub struct ShownOutput<W: Drop> {
     writer: W,
@@ -19,7 +19,7 @@ pub struct ShownOutput<W: Drop> {
 }
 
 impl<W: Write + Drop> ShownOutput<W> {
-    /// Wraps a writer, which writes to a terminal or elsewhere.
+    /// Creates a `ShownOutput` that writes to `writer`. `is_terminal` says whether that is a terminal.
     pub fn new(writer: W, is_terminal: bool) -> ShownOutput<W> {
         ShownOutput {
             writer,
