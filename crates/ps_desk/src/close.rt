@@ -18,10 +18,10 @@ use std::sync::ledger::Share;
 impl<L: DeskName, W: Wait + Drop> Desk<L, W> {
     /// Ends the desk, and returns its sheet. `passes` has the passes of all slots.
     ///
-    /// The sheet's history begins with all that each pass has seen. Since the desk was opened, it has grown by exactly
-    /// what the passes appended. If no two passes have the same slot, it has as many new deltas of each slot as the
-    /// slot's pass appended. So each new delta belongs to exactly one fresh [`crate::Receipt`], and has the receipt's
-    /// number in the history.
+    /// The sheet's history begins with all that each pass has seen. Since the desk was opened, the history has grown by
+    /// as many deltas as all passes appended together. If no two passes have the same slot, the history has as many new
+    /// deltas of each slot as the slot's pass appended. So each new delta belongs to exactly one fresh
+    /// [`crate::Receipt`], and has the receipt's number in the history.
     ///
     /// Cost: that of freeing the published copies.
     pub fn close<V: Wait>(self, wait: &V, passes: Vec<Pass<L>>) -> Sheet
@@ -36,8 +36,8 @@ impl<L: DeskName, W: Wait + Drop> Desk<L, W> {
         sheet
     }
 
-    /// Ends the desk as [`Desk::close`] does, and moves a position that is held outside any session to the end of the
-    /// published list. The sheet's history is then the one that the desk was opened with, followed by that list.
+    /// Ends the desk as [`Desk::close`] does, returns its sheet, and moves `position` to the end of the published list.
+    /// The sheet's history is the history that the desk was opened with, followed by the deltas of the published list.
     ///
     /// Cost: that of freeing the published copies.
     pub fn close_at<V: Wait>(

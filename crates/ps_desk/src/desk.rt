@@ -42,7 +42,7 @@ const SLICE: u64 = 100;
 /// How many times a waiting session sleeps at most.
 const MOST_SLEEPS: u32 = 250;
 
-/// A sheet that several sessions share, each with its [`Pass`]. Contracts see it as the number of its session slots.
+/// A sheet that several sessions share, each with its [`Pass`]. Contracts see a desk as its number of session slots.
 #[derive(Drop)]
 pub struct Desk<L: DeskName, W: Wait + Drop> {
     state: Mutex<DeskState<L, W>>,
@@ -97,26 +97,28 @@ impl<L: DeskName, W: Wait + Drop> Desk<L, W> {
         self.seats
     }
 
-    /// Returns the number of the sheet's replica. It takes no lock.
+    /// Returns the number of the sheet's replica. The call takes no lock.
     pub fn replica(&self) -> u8
         ensures replica { result ≡ L.replica }
     {
         self.replica
     }
 
-    /// Makes the delta of an edit over the sheet's state, appends it to the history, and shows it to all readers.
+    /// Makes an edit: makes the edit's delta over the sheet's state, appends the delta to the history, and shows the
+    /// change to all readers.
     ///
-    /// The receipt encloses the delta, or nothing if the caller doesn't want it back ([`crate::Unenclosed`]).
+    /// Returns a receipt, which holds the delta, or [`crate::Unenclosed`] if the caller doesn't want the delta back.
     ///
     /// The change is shown at once, with all changes that wait to be shown. There is one exception: at a
     /// [`crate::Seat`] with a keeper, a change that directly follows another one may wait. It waits until the session
     /// reads or sends its replies, at the latest.
     ///
-    /// Refused as [`ps_sheet::Sheet::edit`] is, over the whole history, which the pass has then seen. An edit that has
-    /// no such cause of refusal may still fail when out of memory. The call may wait for other calls, and for readers
-    /// that still read an older copy.
+    /// Refused for the reasons of [`ps_sheet::Sheet::edit`], over the whole history. An edit that nothing else refuses
+    /// may still fail when out of memory. The pass has then seen the whole published list, even if the edit fails. The
+    /// call may wait for the desk's lock, and for readers that still read an older copy.
     ///
-    /// Cost: that of [`ps_sheet::Staging::stage`], and twice the cells that show another value.
+    /// Cost: that of [`ps_sheet::Staging::stage`] and of showing the waiting changes, and linear in the cells that show
+    /// another value after the edit.
     #[inline(always)]
     pub fn edit<R: Threads + Sync, V: Wait, M: Ledger, E: Enclosure + Drop>(
         &self,
@@ -144,12 +146,14 @@ impl<L: DeskName, W: Wait + Drop> Desk<L, W> {
         Ok(receipt)
     }
 
-    /// Accepts a delta made elsewhere. Unless the delta adds nothing new, it is appended to the history and shown to
-    /// all readers, as [`Desk::edit`] does with its delta.
+    /// Accepts a delta made elsewhere. If the delta adds something new, the call appends the whole delta to the history
+    /// and shows the change to all readers, at once or later as [`Desk::edit`] does.
     ///
-    /// Fails only when out of memory, and only if the delta adds something new. It may wait as [`Desk::edit`] does.
+    /// Fails only when out of memory, and only if the delta adds something new. The pass has then seen the whole
+    /// published list, even if the call fails. The call may wait as [`Desk::edit`] may.
     ///
-    /// Cost: that of [`ps_sheet::Staging::stage`], and twice the cells that show another value.
+    /// Cost: that of [`ps_sheet::Staging::stage`] and of showing the waiting changes, and linear in the cells that show
+    /// another value after the change.
     #[inline(always)]
     pub fn receive<R: Threads + Sync, V: Wait, M: Ledger, E: Enclosure + Drop>(
         &self,
@@ -174,13 +178,17 @@ impl<L: DeskName, W: Wait + Drop> Desk<L, W> {
         Ok(receipt)
     }
 
-    /// Merges a delta made elsewhere: appends only the new part of the delta, as [`Desk::receive`] appends a delta.
+    /// Merges a delta made elsewhere: appends only the part of the delta that the sheet lacks, and shows the change to
+    /// all readers, at once or later as [`Desk::edit`] does.
     ///
-    /// The receipt encloses the new part. If nothing is new, nothing is appended, and it encloses the whole delta.
+    /// The receipt holds the appended part, if the caller wants it back. If the sheet lacks nothing, the call appends
+    /// nothing, and the receipt holds the whole delta.
     ///
-    /// Fails only when out of memory, and only if something is new. It may wait as [`Desk::edit`] does.
+    /// Fails only when out of memory, and only if the sheet lacks a part. The pass has then seen the whole published
+    /// list, even if the call fails. The call may wait as [`Desk::edit`] may.
     ///
-    /// Cost: that of [`ps_sheet::Staging::stage`], and twice the cells that show another value.
+    /// Cost: that of [`ps_sheet::Staging::stage`] and of showing the waiting changes, and linear in the cells that show
+    /// another value after the change.
     #[inline(always)]
     pub fn merge<R: Threads + Sync, V: Wait, M: Ledger, E: Enclosure + Drop>(
         &self,
@@ -230,13 +238,14 @@ impl<L: DeskName, W: Wait + Drop> Desk<L, W> {
         made
     }
 
-    /// Shows readers all that the pass has seen, and returns the token for all that.
+    /// Shows readers all changes that the pass has seen, and returns a token which proves that these are shown.
     ///
     /// Only a change made at a [`crate::Seat`] with a keeper may wait to be shown: see [`Desk::edit`]. If the pass has
-    /// seen a change that may still wait, this call shows all waiting changes. It may then wait for other calls, and
-    /// for readers that still read an older copy.
+    /// seen a change that may still wait, this call shows all waiting changes. In this case the call may wait for the
+    /// desk's lock, and for readers that still read an older copy.
     ///
-    /// Cost: a constant for each slot. If the pass knows that all it has seen is shown: constant, and no lock is taken.
+    /// Cost: a constant for each slot, and twice the shown values that the waiting changes replace. Constant and
+    /// without the lock if the pass knows that all changes it has seen are shown.
     #[inline]
     pub fn show<V: Wait>(&self, wait: &V, pass: &mut Pass<L>) -> ShownPosition<L>
         ensures shown { result ≡ pass.old.list }
@@ -263,9 +272,10 @@ impl<L: DeskName, W: Wait + Drop> Desk<L, W> {
 
     /// Returns the number of changes in the history. The pass has then seen the whole published list.
     ///
-    /// It may wait for other calls. It shows the changes that wait to be shown, as [`Desk::show`] does.
+    /// The call shows all waiting changes to readers. It may wait for the desk's lock, and for readers that still read
+    /// an older copy.
     ///
-    /// Cost: that of [`Desk::show`].
+    /// Cost: that of showing the waiting changes, as for [`Desk::show`]; constant if none waits.
     pub fn count<V: Wait>(&self, wait: &V, pass: &mut Pass<L>) -> u64
         ensures later { IsPrefix pass.old.list pass.new.list }
         ensures legal { IsLegal L.opening pass.new.list }
@@ -281,11 +291,11 @@ impl<L: DeskName, W: Wait + Drop> Desk<L, W> {
     /// Waits until the history has more changes than `seen`, or the alarm is raised, for at most `patience`. Returns
     /// the number of changes.
     ///
-    /// The caller needs no session slot, since the call doesn't change what any pass has seen. It holds no lock while
-    /// it waits. After the wait it shows readers all waiting changes. If the desk has a kept file, the counted changes
-    /// needn't be durable yet.
+    /// The caller needs no session slot, since the call doesn't change what any pass has seen. The call holds no lock
+    /// while it waits for changes. After the wait it shows all waiting changes to readers. If the desk has a kept file,
+    /// the counted changes needn't be durable yet.
     ///
-    /// Cost: the time that it waits.
+    /// Cost: the time that the call waits, and that of showing the waiting changes.
     pub fn news<V: Wait + Clock>(
         &self,
         wait: &V,
@@ -302,9 +312,9 @@ impl<L: DeskName, W: Wait + Drop> Desk<L, W> {
         state.version()
     }
 
-    /// Raises an alarm, and wakes the calls of this desk that wait with it, such as [`Desk::news`].
+    /// Raises an alarm, and ends the calls of this desk that wait with this alarm, such as [`Desk::news`].
     ///
-    /// It may wait for other calls.
+    /// The call may wait for the desk's lock.
     pub fn raise<V: Wait>(&self, wait: &V, alarm: &Alarm) {
         alarm.raise();
         // once the lock is free, each call that found the alarm unraised sleeps, and can be woken
@@ -371,13 +381,15 @@ impl<L: DeskName, W: Wait + Drop> Desk<L, W> {
         state.version() > seen
     }
 
-    /// Returns the deltas of the history after the first `from`, in order, at most `at_most` of them. The pass has then
-    /// seen the whole published list.
+    /// Returns the deltas of the history after the first `from`, in order, at most `at_most` of them.
     ///
-    /// Refused with `Version` if the history is shorter than `from`. If there are deltas to return, it may also fail
-    /// when out of memory. It may wait for other calls.
+    /// The call shows all waiting changes to readers. The pass has then seen the whole published list, even if the call
+    /// fails. The call may wait for the desk's lock, and for readers that still read an older copy.
     ///
-    /// Cost: linear in the deltas that it returns.
+    /// Refused with `Version` if the history has fewer than `from` deltas. Fails with `Memory` when out of memory, and
+    /// only if the history has more than `from`.
+    ///
+    /// Cost: linear in the returned deltas, and that of showing the waiting changes.
     pub fn pull<V: Wait>(
         &self,
         wait: &V,
@@ -402,13 +414,16 @@ impl<L: DeskName, W: Wait + Drop> Desk<L, W> {
         state.deltas_after(alloc, from, at_most)
     }
 
-    /// Returns the deltas of the history after the first `from`, in order, to a caller without a session slot. The call
-    /// doesn't change what any pass has seen. It moves the position to the end of the published list, even if it fails.
+    /// Returns the deltas of the history after the first `from`, in order, to a caller without a session slot.
     ///
-    /// Refused with `Version` if the history is shorter than `from`. If there are deltas to return, it may also fail
-    /// when out of memory. It may wait for other calls.
+    /// The call shows all waiting changes to readers, and moves `position` to the end of the published list, even if
+    /// the call fails. It doesn't change what any pass has seen. It may wait for the desk's lock, and for readers that
+    /// still read an older copy.
     ///
-    /// Cost: linear in the deltas that it returns.
+    /// Refused with `Version` if the history has fewer than `from` deltas. Fails with `Memory` when out of memory, and
+    /// only if the history has more than `from`.
+    ///
+    /// Cost: linear in the returned deltas, and that of showing the waiting changes.
     pub fn later<V: Wait>(
         &self,
         wait: &V,
@@ -434,10 +449,10 @@ impl<L: DeskName, W: Wait + Drop> Desk<L, W> {
         deltas
     }
 
-    /// Returns whether the sheet, at some moment of the call, has all parts of a delta that its own replica made. If it
-    /// hasn't, another sheet uses the replica's number, too, or this sheet has lost changes.
+    /// Returns whether the sheet, at some moment of the call, has everything in `delta` that is marked with the sheet's
+    /// own replica. If the result is false, another sheet uses the same replica number, or this sheet has lost changes.
     ///
-    /// It may wait for other calls.
+    /// The call may wait for the desk's lock.
     ///
     /// Cost: that of [`ps_sheet::Staging::has_own`].
     pub fn has_own<V: Wait>(&self, wait: &V, delta: &Delta) -> bool
@@ -447,12 +462,12 @@ impl<L: DeskName, W: Wait + Drop> Desk<L, W> {
         self.state.lock(wait).has_own(delta)
     }
 
-    /// Returns the entry of a cell: the text that stands for what the cell holds. The pass has then seen the whole
-    /// published list.
+    /// Returns the entry of a cell: the text that people type for what the cell holds. Fails only when out of memory.
     ///
-    /// Refused only when out of memory. It may wait for other calls.
+    /// The call shows all waiting changes to readers. The pass has then seen the whole published list, even if the call
+    /// fails. The call may wait for the desk's lock, and for readers that still read an older copy.
     ///
-    /// Cost: the bytes of the entry.
+    /// Cost: linear in the bytes of the entry, and that of showing the waiting changes.
     pub fn entry<V: Wait>(
         &self,
         wait: &V,
@@ -472,13 +487,14 @@ impl<L: DeskName, W: Wait + Drop> Desk<L, W> {
         state.entry(alloc, cell)
     }
 
-    /// Returns the entries of a rectangle's cells, as the text of a CSV table with a line for each row. The pass has
-    /// then seen the whole published list.
+    /// Returns the entries of a rectangle's cells, as the text of a CSV table with a line for each row. Fails only when
+    /// out of memory.
     ///
-    /// Refused only when out of memory. It may wait for other calls, and they wait while it copies the contents. No
-    /// call waits while it writes the text.
+    /// The call shows all waiting changes to readers. The pass has then seen the whole published list, even if the call
+    /// fails. The call may wait for the desk's lock, and for readers that still read an older copy. It holds the lock
+    /// while it copies the contents of the cells, but not while it writes the text.
     ///
-    /// Cost: the cells of the rectangle and the bytes of the text.
+    /// Cost: the cells of the rectangle, the bytes of the text, and that of showing the waiting changes.
     pub fn entries<V: Wait>(
         &self,
         wait: &V,

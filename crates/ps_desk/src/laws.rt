@@ -11,11 +11,11 @@ use crate::shot::Shot;
 use crate::shown_position::ShownPosition;
 use ps_grid::Cell;
 
-/// States that a person whose new session gets another slot still sees all that the last session's replies said.
+/// Marks `told` as seen by `pass`, and returns what a cell then shows; none as for [`Pass::read`].
 ///
-/// The last session ended with the token `told` ([`crate::Seat::leave`]). The function marks `told` as seen by the new
-/// slot's pass and reads a cell. The value is settled over a history that begins with all that the last session had
-/// seen.
+/// The contract states that a person whose new session gets another slot still sees all that the last session's replies
+/// said. `told` is the token with which the last session ended ([`crate::Seat::leave`]), and `pass` is that of the new
+/// slot. The value is settled over a history that begins with all that the last session had seen.
 pub fn coming_back_shows_what_was_told<L: DeskName>(
     pass: &mut Pass<L>,
     told: &ShownPosition<L>,

@@ -3,8 +3,8 @@
 use ps_face::Named;
 use std::marker::Brand;
 
-/// The name of a desk: a type that fixes, for contracts, the published copies and the replica of the sheet. A desk and
-/// its passes have the same name. All its members are ghosts, which only contracts see.
+/// A type that names one desk, so that the desk and its passes fit together. In contracts the type gives the desk's
+/// published copies ([`Named`]) and the replica number of the desk's sheet. The trait has no methods.
 pub trait DeskName: Named {
     ghost use Rattle.std.specs.Prelude.{ℕ};
 

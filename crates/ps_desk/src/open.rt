@@ -20,10 +20,12 @@ use std::sync::Wait;
 use std::sync::ledger::Share;
 
 impl<L: DeskName, W: Wait + Drop> Desk<L, W> {
-    /// Opens a desk over the sheet of these parts, and returns the desk and a pass for each session slot.
+    /// Opens a desk over the sheet of these parts, and returns the desk and a pass for each session slot. The passes
+    /// have seen nothing. `keep` is the means to wait for readers of an older published copy.
     ///
-    /// Fails when out of memory, or if a reader of the published copies can't be made (`Seat`). Then the call returns
-    /// the sheet with the refusal. The caller picks the name `L`, whose members have to describe the parts.
+    /// Fails with `Memory` when out of memory, and with `Seat` if the published copies have no room for another reader.
+    /// A failed call returns the sheet with the refusal. The caller picks the name `L`, whose members have to describe
+    /// the parts.
     ///
     /// Cost: that of copying the shown values twice.
     pub fn open(

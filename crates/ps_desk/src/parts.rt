@@ -8,8 +8,8 @@ use ps_sheet::Sheet;
 use std::marker::Model;
 use std::sync::ledger::Blank;
 
-/// What a desk is opened from: a sheet, and the number of session slots. The parts are made before the desk's name is
-/// picked, since the name's members describe them. A contract sees them as a `PartsView`.
+/// The parts from which a desk is opened: a sheet, and the number of session slots. The parts are made before the
+/// desk's name is picked, since the name's members describe the parts. A contract sees the parts as a `PartsView`.
 #[derive(Drop)]
 pub struct Parts {
     pub(crate) sheet: Sheet,
@@ -42,7 +42,8 @@ impl Model for Parts {
 }
 
 impl Parts {
-    /// Creates the parts of a desk with this sheet and `seats` session slots, 1 to `SEATS` of `ps_grid`.
+    /// Creates the parts of a desk with this sheet and `seats` session slots. At least 1 slot is allowed, and at most
+    /// `SEATS` of `ps_grid`.
     pub fn new(sheet: Sheet, seats: usize) -> Parts
         requires seats { (1 ≤ seats) × (seats ≤ MOST) }
         ensures sheet { result.sheet ≡ sheet }

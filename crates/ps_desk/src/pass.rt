@@ -25,10 +25,10 @@ use std::marker::Model;
 use std::sync::Wait;
 use std::sync::ledger::{Book, Share};
 
-/// A session's pass to a desk: its right to change the sheet, and a record of what it has seen and appended.
+/// A session's pass to a desk: the right to change the sheet, and a record of what was seen and appended with the pass.
 ///
-/// The record is a beginning of the desk's published list of patches, and a count of the deltas that the session
-/// appended. A slot's next session gets the slot's pass. A contract sees a pass as a `PassView`.
+/// The record is the seen beginning of the desk's published list of patches, and a count of the appended deltas. The
+/// next session of the slot gets the same pass, with its record. A contract sees a pass as a `PassView`.
 #[derive(Drop)]
 pub struct Pass<L: DeskName> {
     /// absent while a copy is read
@@ -84,8 +84,8 @@ impl<L: DeskName> Pass<L> {
         }
     }
 
-    /// Returns the number of deltas that this pass appended to the history. The list that the pass has seen has at
-    /// least as many patches of its slot.
+    /// Returns the number of deltas that all sessions with this pass have appended to the history. The patches that the
+    /// pass has seen include at least as many of the pass's slot.
     pub fn appended(&self) -> u64
         ensures appended { result ≡ self.now.appended }
         ensures owned { result ≤ owned_by self.now.seat self.now.list }
@@ -93,12 +93,13 @@ impl<L: DeskName> Pass<L> {
         self.appended
     }
 
-    /// Returns what a cell shows now, and the version; none if the desk is gone.
+    /// Returns the value that a cell shows now, and the version. Returns none if the desk is gone, or if the pass has
+    /// seen a change that still waits to be shown ([`crate::Desk::show`] shows such changes).
     ///
-    /// The value is settled: fully recalculated, over the history of a published list. The version is the length of
-    /// that history. The list begins with all that this pass had seen or appended.
+    /// The value is settled: fully recalculated, over a history that has all that this pass had seen or appended. The
+    /// version is the length of this history.
     ///
-    /// It takes no lock and no memory, and doesn't wait.
+    /// The call takes no lock and no memory, and doesn't wait.
     pub fn read(&mut self, cell: Cell) -> Option<Shot>
         ensures later { IsPrefix self.old.list self.new.list }
         ensures legal { IfSome result (λ _. IsLegal L.opening self.new.list) }
@@ -120,13 +121,15 @@ impl<L: DeskName> Pass<L> {
         Some(shot)
     }
 
-    /// Writes what all cells show now to `values`, in the order of the grid, and returns the version; none if the desk
-    /// is gone.
+    /// Writes the values that all cells show now to `values`, row by row, and returns the version. `values` has to have
+    /// one element for each cell of the grid.
     ///
-    /// All are settled values over one history, that of a published list. The version is the length of that history.
-    /// The list begins with all that this pass had seen or appended. The program itself doesn't call this function.
+    /// Returns none, and leaves `values` unchanged, in the two cases of [`Pass::read`].
     ///
-    /// Cost: the cells of the grid; no lock, no wait and no memory.
+    /// All values are settled, over one history that has all that this pass had seen or appended. The version is the
+    /// length of this history. The program itself doesn't call this function.
+    ///
+    /// Cost: linear in the cells of the grid. The call takes no lock and no memory, and doesn't wait.
     pub fn read_all(&mut self, values: &mut [Value]) -> Option<u64>
         requires room { length values.old ≡ CELLS }
         ensures later { IsPrefix self.old.list self.new.list }
@@ -181,8 +184,8 @@ impl<L: DeskName> Pass<L> {
         Position::new(self.reader.as_ref().unwrap().front().again())
     }
 
-    /// Returns the token for all that the pass has seen; none if the pass doesn't know that all of it is shown to
-    /// readers. A pass that has seen nothing always returns one.
+    /// Returns a token which proves that all changes the pass has seen are shown to readers; none if the pass doesn't
+    /// know whether they are. A pass that has seen nothing always returns a token.
     pub fn shown(&self) -> Option<ShownPosition<L>>
         ensures shown { IfSome result (λ shown. shown ≡ self.now.list) }
         ensures unknown { IfNone result (self.now.list ≢ []) }
@@ -238,8 +241,9 @@ impl<L: DeskName> Pass<L> {
         self.stream.is_kept = is_kept;
     }
 
-    /// Marks the published list as seen up to a shown position, if the pass hasn't seen more already. Each later read
-    /// has all of it, too. It is public for callers that pass positions from one pass to another.
+    /// Marks the published list as seen by this pass up to the position `shown`, if the pass hasn't seen more already.
+    /// Each later read with this pass then has these changes. The function is public for callers that carry a position
+    /// from one pass to another.
     pub fn learn(&mut self, shown: &ShownPosition<L>)
         ensures later { IsPrefix self.old.list self.new.list }
         ensures seen { IsPrefix shown.now self.new.list }

@@ -8,8 +8,9 @@ use crate::name::DeskName;
 use ps_face::BookPrefix;
 use std::marker::{Model, PhantomData};
 
-/// A position in the published list of a desk: a token for the list up to there. It can be held outside any session,
-/// and gives no access to values. A contract sees it as that beginning of the list.
+/// A position in the published list of a desk: a token for the beginning of the list that ends at this position. Code
+/// outside any session can hold a position, which gives no access to values. A contract sees a position as the
+/// beginning of the list.
 #[derive(Drop)]
 pub struct Position<L: DeskName> {
     pub(crate) front: BookPrefix,
@@ -55,7 +56,8 @@ impl<L: DeskName> Position<L> {
         }
     }
 
-    /// Returns whether `other` is this position or a later one. Then the list of `other` begins with this one's.
+    /// Returns whether `other` is this position or a later one. If so, the list up to `other` begins with the list up
+    /// to this position.
     pub fn begins(&self, other: &Position<L>) -> bool
         ensures begins { MatchBool result
             (IsPrefix self.now other.now × (length self.now ≤ length other.now))

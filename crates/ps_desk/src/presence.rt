@@ -40,8 +40,8 @@ impl Alarm {
 
 /// Watches the connections of the sessions that wait, and has an alarm for each session slot.
 ///
-/// The lookout's owner has a thread that sleeps until the system reports one of these connections, by the number of its
-/// slot. The thread then raises the alarm of that slot.
+/// The lookout's owner has a thread that sleeps until one of these connections has something to read. The system then
+/// reports the number of the connection's slot, and the thread raises the alarm of this slot.
 #[derive(Drop)]
 pub struct Lookout {
     registry: Registry,
@@ -60,7 +60,7 @@ impl Lookout {
         Ok(Lookout { registry, alarms })
     }
 
-    /// Returns the alarm of the slot with this number; none if there is no such slot.
+    /// Returns the alarm of the slot with this number, counted from 0; none if there is no slot with this number.
     pub fn alarm(&self, number: usize) -> Option<&Alarm> {
         self.alarms.get(number)
     }
@@ -89,12 +89,12 @@ impl Lookout {
     }
 }
 
-/// A lookout, and the slot in it that watches one session's peer.
+/// A lookout, and the number of the session slot whose peer the lookout watches.
 #[derive(Clone, Copy)]
 pub struct Watch<'a> {
     /// The lookout.
     pub lookout: &'a Lookout,
-    /// The number of the slot.
+    /// The number of the session slot, from 0.
     pub number: usize,
 }
 
@@ -115,7 +115,8 @@ impl<'a> Presence<'a> {
         }
     }
 
-    /// Returns the same peer. `watch` watches it while its session waits; `None` means that no lookout does.
+    /// Returns the same peer, which the lookout of `watch` watches while the peer's session waits. If `watch` is
+    /// `None`, no lookout watches the peer.
     pub fn watched_by(self, watch: Option<Watch<'a>>) -> Presence<'a> {
         Presence {
             stream: self.stream,
@@ -123,7 +124,8 @@ impl<'a> Presence<'a> {
         }
     }
 
-    /// Returns whether the peer still waits: it has neither closed the connection nor sent more bytes.
+    /// Returns whether the peer still waits: it has neither closed the connection nor sent bytes that are still unread.
+    /// Returns false if the system can't say.
     ///
     /// Cost: three system calls.
     pub fn is_waiting(&self) -> bool {

@@ -9,14 +9,15 @@ use ps_session::Merged;
 use std::alloc::Global;
 use std::sync::Wait;
 
-/// What a receipt can enclose: the change's [`Delta`], or nothing ([`Unenclosed`]). The caller picks the type.
+/// A type that a [`Receipt`] can enclose: [`Delta`], for the delta of the change, or [`Unenclosed`], for nothing. The
+/// caller of the desk picks the type.
 pub trait Enclosure: Sized {
     ghost use Rattle.ps_delta.specs.Deltas.{Entries};
 
-    /// What holds between an enclosed value and the change's delta.
+    /// The relation that holds between an enclosed value and the change's delta.
     ghost tells: { Self → Entries → Type 0 };
 
-    /// Returns the value to enclose for a change by this delta.
+    /// Returns the value that a receipt encloses for a change with this delta.
     fn of<V: Wait>(wait: &V, alloc: Global, delta: &Delta) -> Self
         ensures { tells result delta.now };
 }
@@ -32,7 +33,7 @@ impl Enclosure for Delta {
     }
 }
 
-/// Stands for a delta that the caller doesn't want back. It costs no time.
+/// Stands in a receipt for a delta that the caller doesn't want back, and takes no time to make.
 #[derive(Clone, Copy, Debug)]
 pub struct Unenclosed;
 
@@ -47,15 +48,16 @@ impl Enclosure for Unenclosed {
     }
 }
 
-/// The result of a change: its number in the history, and its delta if the caller wants that back.
+/// The result of a change: the change's number in the history, and the change's delta if the caller wants it back.
 ///
-/// `E` is [`Delta`] if so, and else [`Unenclosed`].
+/// `E` is [`Delta`] if the caller wants the delta back, and [`Unenclosed`] otherwise.
 #[derive(Drop)]
 pub struct Receipt<E> {
-    /// The number of the delta in the history, from 1, if `fresh`. Otherwise the length of the history, to which the
-    /// delta added nothing new.
+    /// If `fresh`, the number of the delta in the history, from 1. Otherwise the length of the history, since the delta
+    /// added nothing new to it.
     pub number: u64,
-    /// The change's delta, or [`Unenclosed`]. Of a merge it is the news, or the whole delta if there is no news.
+    /// The change's delta, or [`Unenclosed`]. A merge's delta is the part that the sheet lacked, or the whole merged
+    /// delta if the sheet lacked nothing.
     pub enclosed: E,
     /// Whether this change appended its delta to the history.
     pub fresh: bool,

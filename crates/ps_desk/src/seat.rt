@@ -22,7 +22,7 @@ use std::thread::Threads;
 use std::time::Clock;
 
 /// A session at a desk: the desk and the session's pass, which together answer the lines of the session. A contract
-/// sees it as the pass.
+/// sees a seat as the pass.
 #[derive(Drop)]
 pub struct Seat<'a, L: DeskName, W: Wait + Drop, V: Wait> {
     desk: &'a Desk<L, W>,
@@ -70,7 +70,8 @@ impl<'a, L: DeskName, W: Wait + Drop, V: Wait> Seat<'a, L, W, V> {
         self.pass.position()
     }
 
-    /// Shows readers all that the session has seen, its own changes included, and returns the token for all that.
+    /// Shows readers all changes that the session has seen, its own included, and returns a token which proves that
+    /// these are shown.
     ///
     /// Cost: that of [`Desk::show`].
     pub fn show(&mut self) -> ShownPosition<L>
@@ -80,11 +81,11 @@ impl<'a, L: DeskName, W: Wait + Drop, V: Wait> Seat<'a, L, W, V> {
         self.desk.show(self.wait, &mut self.pass)
     }
 
-    /// Declares that the session has a keeper (`Keeper` of `ps_session`). Returns the token for all that the session
-    /// has seen, which is shown now.
+    /// Declares that the session has a keeper (`Keeper` of `ps_session`). Shows readers all changes that the session
+    /// has seen, and returns a token which proves that these are shown.
     ///
-    /// The keeper has to show the session's changes before the replies are sent. In return, changes that directly
-    /// follow each other may be shown together. Without a keeper, each change is shown at once.
+    /// The keeper has to show the session's changes before the session's replies are sent. In return, changes that
+    /// directly follow each other may be shown together. Without a keeper, each change is shown at once.
     ///
     /// Cost: that of [`Seat::show`].
     pub fn leave_to_keeper(&mut self) -> ShownPosition<L>
@@ -95,8 +96,8 @@ impl<'a, L: DeskName, W: Wait + Drop, V: Wait> Seat<'a, L, W, V> {
         self.show()
     }
 
-    /// Records that all that the session has seen is shown. `shown` has to cover all of that: otherwise the call never
-    /// returns.
+    /// Records that all changes that the session has seen are shown to readers. `shown` has to cover these changes:
+    /// otherwise the call never returns.
     pub fn note_shown(&mut self, shown: &ShownPosition<L>)
         ensures same { self.new ≡ self.old }
     {
@@ -105,8 +106,8 @@ impl<'a, L: DeskName, W: Wait + Drop, V: Wait> Seat<'a, L, W, V> {
 
     /// Ends the session, and returns its pass.
     ///
-    /// It first shows readers all that the session has seen, its own changes included. The second result is the token
-    /// for all that.
+    /// The call first shows readers all changes that the session has seen, its own included. The second result is a
+    /// token which proves that these are shown.
     ///
     /// Cost: that of [`Desk::show`].
     pub fn leave(mut self) -> (Pass<L>, ShownPosition<L>)

@@ -14,10 +14,11 @@ use std::alloc::Global;
 use std::marker::Model;
 use std::sync::Wait;
 
-/// A token which proves that a beginning of a desk's published list is shown to all readers. A contract sees it as that
-/// beginning.
+/// A token which proves that a beginning of a desk's published list is shown to all readers. A contract sees the token
+/// as this beginning.
 ///
-/// Only reading the published copies makes one, or a call of the desk that shows waiting changes.
+/// A read of the published copies makes such a token, and so does a call of the desk that shows waiting changes. Each
+/// pass of a new desk has the token for the empty beginning.
 #[derive(Drop)]
 pub struct ShownPosition<L: DeskName> {
     position: Position<L>,
@@ -57,7 +58,7 @@ impl<L: DeskName> ShownPosition<L> {
         }
     }
 
-    /// Returns the position up to which the list is shown.
+    /// Returns the position at the end of the beginning that this token covers.
     pub fn position(&self) -> &Position<L>
         ensures { result.now ≡ self.now }
     {

@@ -1,6 +1,6 @@
 //! States that threads may share a desk.
 //!
-//! The prover finds no proof of this for the whole desk at once, so the functions here prove it part by part.
+//! The prover finds no proof of this fact for the whole desk at once, so the functions here prove it part by part.
 ghost use denote.Param.Send.{IsSend, IsSync};
 ghost use Rattle.ps_desk.specs.contracts.desk.Desk as desk;
 ghost use Rattle.ps_desk.specs.contracts.state.DeskState as state;
@@ -26,7 +26,8 @@ fn state_is_send<L: DeskName, W: Wait + Drop + Send>()
     is_send::<Book<L>>();
 }
 
-/// States that threads may share a desk. A caller needs this fact, and so calls the function, before it shares one.
+/// Does nothing; its contract states that threads may share a desk. A caller calls it for this fact, before it shares a
+/// desk with another thread.
 pub fn desk_is_sync<L: DeskName, W: Wait + Drop + Send>()
     ensures { IsSync (desk.the_row L.row W.row (record { replica = L.replica })
         (record { book = L.book; opening = L.opening }) L.Ledger) }

@@ -14,7 +14,7 @@ use std::marker::Model;
 /// The greatest length of a list. No run reaches it.
 const LONGEST: u64 = 1 << 62;
 
-/// The rule that every step on the book keeps: its word is the length of the list.
+/// The rule that every step on a book keeps: the book's atomic word holds the length of the published list.
 pub struct BookLaw;
 
 impl Rule<Note, u64> for BookLaw {
@@ -35,7 +35,7 @@ impl Rule<Note, u64> for BookLaw {
     ghost moves = { λ ask before after answer. Unit {0} };
 }
 
-/// What a step on the book gives to its caller beside the list: nothing.
+/// Says that a step on the book gives its caller nothing but the new list.
 pub struct Nothing;
 
 impl Gain<Note, u64> for Nothing {
@@ -44,7 +44,7 @@ impl Gain<Note, u64> for Nothing {
     ghost after = { λ names about answer. ftrue };
 }
 
-/// The step that adds a patch to the list.
+/// The step on the book that appends a patch to the published list.
 pub struct Add;
 
 impl Play<Note, u64> for Add {
@@ -61,9 +61,9 @@ impl Plain<Patch<'_>, Note, u64> for Add {
     ghost state = { λ patch. None };
 }
 
-/// A new book, the record of a published list that is still empty. [`crate::FaceWriter::open`] makes copies for it.
+/// A new book: its published list is still empty. [`crate::FaceWriter::open`] takes it and creates copies for it.
 ///
-/// A contract sees it as the book.
+/// A contract sees a `NewBook` as its book.
 #[derive(Drop)]
 pub struct NewBook {
     /// the atomic word that holds the length of the list
@@ -122,9 +122,10 @@ impl Model for Head {
     ghost invariant = { λ h. h.head ≡ head_of h.head.book };
 }
 
-/// Proof that a beginning of the published list was seen: its length, and a token of no bytes.
+/// Proof that somebody has seen a beginning of the published list, that is, its first patches in order. At run time the
+/// proof is the beginning's length, and a token of no bytes.
 ///
-/// A contract sees it as the book and that beginning.
+/// A contract sees a `BookPrefix` as the book and that beginning.
 #[derive(Drop)]
 pub struct BookPrefix {
     /// the number of patches in the beginning
@@ -159,7 +160,8 @@ impl BookPrefix {
         }
     }
 
-    /// Returns whether `other` is at least as long as this beginning of the same list. It then begins with this one.
+    /// Returns whether `other` is at least as long as this beginning. Both are beginnings of the same list, so then
+    /// `other` begins with this one.
     pub fn begins(&self, other: &BookPrefix) -> bool
         requires book { self.now.book ≡ other.now.book }
         ensures { MatchBool result

@@ -17,7 +17,8 @@ use ps_value::Value;
 use std::alloc::{AllocError, Global};
 use std::marker::Model;
 
-/// A copy of what all cells show, with its version and the beginning of the published list that it stands for.
+/// One of the two copies: what each cell shows after a beginning of the published list, with this beginning and the
+/// version.
 #[derive(Drop)]
 pub struct Face {
     version: u64,
@@ -51,8 +52,8 @@ impl Model for Face {
     ghost invariant = { λ f. CELLS ≤ vec_capacity f.room };
 }
 
-/// What one or several consecutive patches change in a copy, with the beginning of the list that ends with the last of
-/// them. It has no more changes than there are cells.
+/// The changes that one or several consecutive patches make in a copy, at most as many as there are cells. With them
+/// comes the beginning of the published list that ends with the last of these patches.
 #[derive(Drop)]
 pub struct Operation {
     pub(crate) version: u64,
@@ -157,7 +158,7 @@ impl Face {
         self.shown.at(cell)
     }
 
-    /// Returns the beginning of the published list that the values come from.
+    /// Returns the beginning of the published list after which the cells show the copy's values.
     pub fn front(&self) -> &BookPrefix
         ensures front { result.now ≡ record { book = self.now.book; list = self.now.list } }
     {

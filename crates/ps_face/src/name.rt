@@ -5,8 +5,8 @@ use std::sync::ledger::Ledger;
 
 /// A type that names one pair of published copies, so that its writer and readers fit together.
 ///
-/// In contracts it gives the book of the published list, and the history that the copies were opened with. It has no
-/// methods.
+/// In contracts the type gives the book of the published list, and the history that the copies were opened with. The
+/// trait has no methods.
 pub trait Named: Ledger {
     ghost use Rattle.std.specs.Prelude.{List};
     ghost use Rattle.logbook.specs.Pages.{Book};

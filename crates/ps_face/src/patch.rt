@@ -19,16 +19,16 @@ use std::marker::Model;
 pub struct Note {
     /// The delta's number in the history, from 1: the version after the patch.
     pub number: u64,
-    /// The accepted delta.
+    /// The delta, which the sheet has accepted.
     pub delta: Delta,
     /// Each cell whose shown value changes, with the new value.
     pub changes: LinkedList<(Cell, Value)>,
-    /// The session slot whose call made it.
+    /// The session slot whose call made the delta.
     pub owner: u64,
 }
 
-/// A delta, its number in the history, and each cell whose shown value it changes, with the new value. It borrows the
-/// delta, since the published copies need only the changes.
+/// A delta, its number in the history, and each cell whose shown value the delta changes, with the new value. A patch
+/// borrows the delta, since the published copies need only the changes.
 #[derive(Drop)]
 pub struct Patch<'a> {
     pub(crate) number: u64,
@@ -79,7 +79,8 @@ impl<'a> Patch<'a> {
         }
     }
 
-    /// Creates the patch of a delta that changes the shown value of one cell, as [`Patch::new`] does, but with no list.
+    /// Creates the patch of a delta that changes the shown value of one cell, as [`Patch::new`] does, but without
+    /// a `Vec` for the one change.
     pub fn of_one(number: u64, delta: &'a Delta, change: (Cell, Kept), owner: u64) -> Patch<'a>
         ensures { result ≡ record {
           number = number;
@@ -103,7 +104,7 @@ impl<'a> Patch<'a> {
         self.number
     }
 
-    /// Returns the accepted delta.
+    /// Returns the patch's delta, which the sheet has accepted.
     pub fn delta(&self) -> &'a Delta
         ensures delta { result.now ≡ self.now.delta }
         ensures in_grid { AreInGrid self.now.delta }
@@ -115,8 +116,8 @@ impl<'a> Patch<'a> {
 
     /// Returns each cell whose shown value changes, with the new value.
     ///
-    /// Nothing in the program calls it. It is part of the public interface, as [`Patch::number`] and [`Patch::delta`]
-    /// are.
+    /// Nothing in the program calls this method. It is part of the public interface, as [`Patch::number`] and
+    /// [`Patch::delta`] are.
     pub fn changes(&self) -> &[(Cell, Kept)]
         ensures changes { map valued result.now ≡ self.now.changes }
     {

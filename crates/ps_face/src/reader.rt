@@ -17,10 +17,10 @@ use ps_grid::Cell;
 use ps_value::{Operand, Value};
 use std::marker::Model;
 
-/// A reader of the published copies, while it reads none. [`FaceReader::enter`] begins a reading.
+/// A reader of the published copies that reads none at the moment. [`FaceReader::enter`] begins a reading.
 ///
-/// A contract sees it as the beginning of the published list that it has seen or learned of, and how often it has
-/// entered.
+/// A contract sees two things of a reader: the beginning of the published list that the reader has seen or learned of,
+/// and how often the reader has entered.
 #[derive(Drop)]
 pub struct FaceReader<L: Named> {
     reader: Reader<Face, View, Law<L>>,
@@ -46,8 +46,8 @@ impl<L: Named> Model for FaceReader<L> {
 /// A reading: a reader that has entered, with the copy that it reads. The copy doesn't change until [`Seen::leave`]
 /// ends the reading.
 ///
-/// A contract sees it as the published list that was shown when the reader entered, how often the reader has entered,
-/// and the values of all cells in order.
+/// A contract sees three things of a reading: the published list that was shown when the reader entered, how often the
+/// reader has entered, and all cells' values in the order of the cells.
 pub struct Seen<L: Named> {
     reading: Reading<Face, View, Law<L>>,
 }
@@ -94,8 +94,9 @@ impl<L: Named> FaceReader<L> {
 
     /// Makes this reader see nothing older than `front`, a beginning of the published list, and returns true.
     ///
-    /// Returns false, and changes nothing, if the reader has seen more than `front` already. It doesn't touch the
-    /// copies, and takes no memory. While a patch of `front` waits to be shown, this reader can't enter.
+    /// Returns false, and changes nothing, if the reader has already seen or learned of more than `front`. The call
+    /// doesn't touch the copies, and takes no memory. While a patch of `front` waits to be shown, this reader can't
+    /// enter.
     pub fn learn(&mut self, front: &BookPrefix) -> bool
         requires book { front.now.book ≡ L.book }
         requires legal { IsLegal L.opening front.now.list }
@@ -110,15 +111,15 @@ impl<L: Named> FaceReader<L> {
         true
     }
 
-    /// Takes the copy that is shown now, in one step.
+    /// Begins a reading: takes, in one step, the copy that is shown now, and returns it as a [`Seen`].
     ///
-    /// Returns the reader instead if the writer is gone, or if a patch that the reader learned of still waits to be
-    /// shown.
+    /// Returns the reader instead, as the error, if the writer is gone, or if a patch that the reader learned of still
+    /// waits to be shown.
     ///
-    /// The copy shows the settled values of all cells at one version. The list of patches that it stands for begins
-    /// with all that this reader had seen, and is legal: each patch follows the history before it.
+    /// The copy shows the settled values of all cells at one version, those after a list of patches. This list begins
+    /// with all patches that the reader had seen or learned of. It is legal: each patch follows the history before it.
     ///
-    /// It takes no lock and no memory, and doesn't wait.
+    /// The call takes no lock and no memory, and doesn't wait.
     pub fn enter(self) -> Result<Seen<L>, FaceReader<L>>
         ensures later { IfOk result (λ s. IsPrefix self.list s.list) }
         ensures legal { IfOk result (λ s. IsLegal L.opening s.list) }
@@ -158,7 +159,7 @@ impl<L: Named> Seen<L> {
         self.reading.get().at(cell)
     }
 
-    /// Returns the list that the copy stands for, as a [`ShownPrefix`].
+    /// Returns proof that readers were shown the list of patches after which the cells show this copy's values.
     pub fn shown(&self) -> ShownPrefix
         ensures shown { result ≡ record { book = L.book; list = self.now.list } }
     {

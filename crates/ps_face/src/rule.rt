@@ -10,13 +10,14 @@ use std::marker::PhantomData;
 
 /// What a reader or the writer has seen, as contracts see it. The program makes no value of this type.
 pub struct View {
-    /// The beginning of the published list.
+    /// The beginning of the published list that the reader or the writer has seen.
     pub list: LinkedList<Note>,
     /// How often the reader has entered.
     pub enters: u64,
 }
 
-/// The rule that each step on the two copies keeps.
+/// The rule that each step on the two copies keeps: the shown list is legal, and what each reader has seen is
+/// a beginning of that list.
 pub struct Law<L: Named> {
     of: PhantomData<L>,
 }
@@ -29,7 +30,7 @@ impl<L: Named> Protocol<Face, View> for Law<L> {
     ghost first = { newcomer };
 }
 
-/// The step by which the writer shows another copy.
+/// The step by which the writer shows readers the other copy.
 pub struct Publish;
 
 impl Outcome<Face, View> for Publish {

@@ -5,10 +5,10 @@ ghost use Rattle.std.specs.Prelude.{◌≡◌};
 use crate::book::BookPrefix;
 use std::marker::Model;
 
-/// Proof that readers were shown a beginning of the published list. A contract sees it as that beginning.
+/// Proof that readers were shown a beginning of the published list. A contract sees a `ShownPrefix` as that beginning.
 ///
-/// Two functions make one: [`crate::FaceWriter::shown`], once the whole list is shown, and [`crate::Seen::shown`], for
-/// the copy that a reader reads.
+/// Two functions create the proof: [`crate::FaceWriter::shown`], once the whole list is shown, and
+/// [`crate::Seen::shown`], for the copy that a reader reads.
 #[derive(Drop)]
 pub struct ShownPrefix {
     front: BookPrefix,

@@ -33,9 +33,10 @@ fn patch_is_send()
     is_send_and_sync::<CellState>();
 }
 
-/// States that a `FaceWriter` may move to another thread (`Send`), if its `R` may. It does nothing.
+/// States that a `FaceWriter` may move to another thread (`Send`) if its `R`, by which it waits for readers, may move.
+/// The function does nothing at run time.
 ///
-/// Callers that share a writer between threads call this first, so that the prover has this fact.
+/// Callers that share a writer between threads call this function first, so that the prover has the fact.
 pub fn writer_is_send<L: Named, R: Wait + Drop + Send>()
     ensures { IsSend (writer.the_row L.row R.row (record { book = L.book; opening = L.opening }) L.Ledger) }
 {

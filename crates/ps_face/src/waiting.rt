@@ -14,8 +14,9 @@ use ps_shown::Kept;
 use std::alloc::Global;
 use std::marker::Model;
 
-/// The number of waiting patches at which the writer shows all of them, so fewer than this wait. Together they have at
-/// most this many changes. This limits how far readers are behind, and the memory of what waits.
+/// The number of waiting patches at which the writer shows all of them, so fewer patches than this number wait between
+/// calls. It is also the most changes that the waiting patches have together. The number limits how far readers are
+/// behind, and the memory that waiting patches take.
 pub const MOST_WAITING: usize = 64;
 
 /// The patches of the list that wait to be shown, merged into one operation on a copy. A contract sees their number,

@@ -39,15 +39,15 @@ type Copies<L> = Writer<Face, Operation, View, Law<L>>;
 
 /// The writer of two published copies. Readers use one copy while the writer changes the other.
 ///
-/// A contract sees it as the published list of patches, the beginning of that list that readers are shown, and the
-/// pending patches, which are appended and not yet published.
+/// A contract sees three things of a writer: the published list of patches, the beginning of the list that readers are
+/// shown, and the pending patches, which [`FaceWriter::append`] has stored and which aren't published yet.
 pub struct FaceWriter<L: Named, R: Wait + Drop> {
     copies: Copies<L>,
     head: Head,
     front: BookPrefix,
     staged: Vec<KeptPatch>,
     waiting: Waiting,
-    /// waits for readers when the copies are dropped
+    /// waits for readers when a copy is shown, and when the copies are dropped
     rt: R,
 }
 
@@ -72,8 +72,9 @@ impl<L: Named, R: Wait + Drop> Model for FaceWriter<L, R> {
 }
 
 impl<L: Named, R: Wait + Drop> FaceWriter<L, R> {
-    /// Creates two copies of what a sheet shows at `version`, and returns their writer and `readers` readers, 1 to
-    /// `SEATS`.
+    /// Creates two copies of `shown`, what a sheet shows at `version`, and returns their writer and their readers.
+    /// `opened` is the copies' book. `readers` is the number of readers: at least 1, at most `SEATS`, the greatest
+    /// number of session slots.
     ///
     /// # Errors
     ///
@@ -121,12 +122,13 @@ impl<L: Named, R: Wait + Drop> FaceWriter<L, R> {
         }
     }
 
-    /// Stores the patch that comes next in the list, until [`FaceWriter::publish`] adds it there and shows it.
+    /// Stores `patch`, the next one, until [`FaceWriter::publish`] appends it to the published list and shows it.
     ///
     /// Fails only when out of memory, and then nothing has changed.
     ///
-    /// Nothing in the program calls it: [`FaceWriter::publish_patch`] does both in one call. It is part of the public
-    /// interface, for callers that do something between the two, such as a test that looks at the copies.
+    /// Nothing in the program calls this method: [`FaceWriter::publish_patch`] stores and publishes in one call. The
+    /// method is part of the public interface, for callers that do something between the two steps, such as a test that
+    /// looks at the copies.
     ///
     /// Cost: constant; the first call takes memory for one patch.
     pub fn append(&mut self, patch: Patch<'_>) -> Result<(), Refusal>
@@ -142,12 +144,12 @@ impl<L: Named, R: Wait + Drop> FaceWriter<L, R> {
         Ok(())
     }
 
-    /// Publishes the patch that [`FaceWriter::append`] stored, and returns its delta. Shows it to readers at one step,
-    /// with all posted patches that wait.
+    /// Publishes the patch that [`FaceWriter::append`] stored, and returns the patch's delta. The call appends the
+    /// patch to the published list, and shows it to readers at one step, with all posted patches that wait.
     ///
     /// Readers that entered before the previous showing must leave first: this call waits for them.
     ///
-    /// Nothing in the program calls it. It is part of the public interface, as [`FaceWriter::append`] is.
+    /// Nothing in the program calls this method. It is part of the public interface, as [`FaceWriter::append`] is.
     ///
     /// Cost: that of [`FaceWriter::publish_patch`].
     pub fn publish(&mut self) -> Delta
@@ -174,8 +176,8 @@ impl<L: Named, R: Wait + Drop> FaceWriter<L, R> {
         delta
     }
 
-    /// Adds the patch that comes next to the list, and shows it to readers at one step, with all posted patches that
-    /// wait.
+    /// Appends `patch`, the next one, to the published list, and shows it to readers at one step, with all posted
+    /// patches that wait.
     ///
     /// Readers that entered before the previous showing must leave first: this call waits for them.
     ///
@@ -201,11 +203,12 @@ impl<L: Named, R: Wait + Drop> FaceWriter<L, R> {
         show_with(rt, copies, waiting, next);
     }
 
-    /// Adds the patch that comes next to the list. The patch waits: only the next [`FaceWriter::show`] or
-    /// [`FaceWriter::publish_patch`] shows it to readers.
+    /// Appends `patch`, the next one, to the published list. The patch then waits: only the next [`FaceWriter::show`]
+    /// or [`FaceWriter::publish_patch`] shows it to readers.
     ///
-    /// But if [`MOST_WAITING`] patches then wait, or would wait with more changes than that, this call shows all of
-    /// them, and waits for readers as `show` does. Fails only when out of memory, and then nothing has changed.
+    /// There is one exception. If [`MOST_WAITING`] patches would wait, or the waiting patches would have more than
+    /// [`MOST_WAITING`] changes together, this call shows all of them, and waits for readers as `show` does. The call
+    /// fails only when out of memory, and then nothing has changed.
     ///
     /// Cost: the changes of the patch, once now and twice when they are shown. The first patch that waits after a
     /// showing takes memory for [`MOST_WAITING`] changes.
@@ -258,7 +261,7 @@ impl<L: Named, R: Wait + Drop> FaceWriter<L, R> {
         show_waiting(rt, copies, waiting);
     }
 
-    /// Returns the whole published list, also the patches that wait to be shown.
+    /// Returns the token of the whole published list, including the patches that wait to be shown.
     pub fn front(&self) -> &BookPrefix
         ensures front { result.now ≡ record { book = L.book; list = self.now.list } }
         ensures legal { IsLegal L.opening self.now.list }
@@ -267,7 +270,7 @@ impl<L: Named, R: Wait + Drop> FaceWriter<L, R> {
         &self.front
     }
 
-    /// Returns the whole published list as one that readers were shown. No patch may wait.
+    /// Returns proof that readers were shown the whole published list. Only callable while no patch waits.
     pub fn shown(&self) -> ShownPrefix
         requires all { self.now.shown ≡ self.now.list }
         ensures shown { result ≡ record { book = L.book; list = self.now.shown } }

@@ -1,4 +1,4 @@
-//! Why a join ends, or a relay.
+//! The faults that end a join or a relay.
 use ps_peers::SyncFault;
 
 /// One of the two peers of a join.
@@ -13,7 +13,7 @@ pub enum End {
 /// Why a join ended: which peer failed, refused or closed, and how.
 #[derive(Debug, Drop)]
 pub struct JoinFault {
-    /// the peer where it ended
+    /// the peer at which the join ended
     pub end: End,
     /// what happened there: the fault of that peer or of its connection
     pub fault: SyncFault,
@@ -24,6 +24,6 @@ pub struct JoinFault {
 pub enum RelayFault {
     /// The output failed.
     Output,
-    /// The server failed, refused or closed, in this way.
+    /// The exchange with the server failed, or memory ran out. The field says how.
     Server(SyncFault),
 }

@@ -6,18 +6,19 @@ ghost use Rattle.ps_join.specs.Joins.{merge_text};
 /// What came in at an [`Intake`].
 #[derive(Clone, Copy)]
 pub enum Came {
-    /// A delta, which the intake holds until it is settled.
+    /// A delta, which is now in hand: the intake holds it until it is settled.
     Delta,
-    /// Nothing for now.
+    /// No delta for now.
     Nothing,
-    /// Nothing, and no more will come in.
+    /// No delta, and none will come in later.
     Ended,
 }
 
 /// A source of deltas for a relay, one after another.
 ///
-/// At most one delta is in hand: [`Intake::next`] takes it, and the intake holds it until [`Intake::settle`]. It stays
-/// in hand even if the connection to the server is lost. So a later relay merges it again.
+/// At most one delta is *in hand*: [`Intake::next`] takes a delta in hand, and the intake holds the delta until
+/// [`Intake::settle`]. A delta stays in hand even if the connection to the server is lost, so that a later relay merges
+/// it again.
 pub trait Intake {
     /// The merge lines of all deltas that aren't settled yet, if the intake shows them.
     ghost to_come: { Self → Option (List ℕ) };
@@ -28,7 +29,8 @@ pub trait Intake {
     /// Whether a delta is in hand.
     ghost holds: { Self → Bool };
 
-    /// Takes the next delta in hand, unless one is in hand already, and returns whether one is. It doesn't wait.
+    /// Takes the next delta in hand, unless a delta is in hand already. Returns whether a delta is in hand then, and if
+    /// not, whether the source has ended. Doesn't wait.
     fn next(&mut self) -> Came
         ensures same { to_come self.new ≡ to_come self.old }
         ensures held { result ≡ Came.Delta → holds self.new ≡ true }
@@ -38,7 +40,8 @@ pub trait Intake {
     fn delta(&self) -> &[u8]
         ensures { result.now ≡ held self.now };
 
-    /// Ends the hold on the delta in hand. The server has merged it, or refused it with the `err` reply `refusal`.
+    /// Ends the hold on the delta in hand, to which the server has replied. `refusal` is the server's `err` reply, or
+    /// `None` if the server has merged the delta.
     ///
     /// Cost: linear in the bytes of the reply.
     fn settle(&mut self, refusal: Option<&str>)

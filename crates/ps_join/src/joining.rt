@@ -1,4 +1,4 @@
-//! Joins two peers: each gets what the other has.
+//! Joins two peers: each gets the changes of the other.
 ghost use Rattle.std.specs.Prelude.{◌≡◌, ◌<◌, ◌≤◌, IfErr, IfOk, OnOk, false, true};
 ghost use Rattle.ps_grid.specs.declared.refusal.Refusal.TheVariants as Refusal;
 ghost use Rattle.ps_join.specs.Joins.{IsBothWays, IsFailed, IsJoined, IsStopped, Later};
@@ -41,18 +41,19 @@ fn carry_both<S: Source + Drop, K: Sink + Drop, T: Source + Drop, M: Sink + Drop
     }
 }
 
-/// Merges all changes of `from` at `to`, and then those of `to` at `from`. They travel in groups, and each is merged
-/// before the next is pulled.
+/// Merges all changes of `from` at `to`, and then all changes of `to` at `from`. Changes travel in groups, and each
+/// group is merged before the next group is pulled.
 ///
-/// The way back leaves out the first changes of `to` if the replies to the merges show that they came from `from`. What
-/// was merged before a fault stays merged.
+/// The way back leaves out the first changes of `to` if the replies to the merges show that these changes came from
+/// `from`. Groups merged before a fault stay merged.
 ///
 /// # Errors
 ///
-/// The fault names its peer.
+/// The fault names the peer at which it happened.
 ///
 /// - `Device`: the connection to the peer failed.
-/// - `Line`: a reply of the peer doesn't fit its request, or it broke off.
+/// - `Line`: a reply of the peer doesn't fit its request, the connection ended within a reply, or an earlier call on
+///   the peer failed.
 /// - `Memory`: allocation failed.
 /// - `PeerRefused`: the peer replied `err`.
 /// - `Closed`: the peer closed its connection.
@@ -75,11 +76,11 @@ pub fn join_once<S: Source + Drop, K: Sink + Drop, T: Source + Drop, M: Sink + D
     }
 }
 
-/// Joins two peers as [`join_once`] does, and then carries over each change that one of them gets, until one of them
-/// fails, refuses or closes. Returns that fault, one of those of [`join_once`].
+/// Joins two peers as [`join_once`] does, and then merges each change that one of them gets at the other. Goes on until
+/// a fault, and returns the fault: one of the errors of [`join_once`].
 ///
-/// Between changes both peers wait for more (`wait`), and `attention` says whose reply to read first. An empty line
-/// ends the wait of the other.
+/// Between changes `join` sends both peers a `wait` for more changes, and `attention` says which peer's reply to read
+/// first. An empty line then ends the wait of the other peer.
 ///
 /// Cost: linear in the bytes of the lines, besides the wait for the peers.
 pub fn join<S: Source + Drop, K: Sink + Drop, T: Source + Drop, M: Sink + Drop, A: Attention>(

@@ -167,21 +167,22 @@ fn await_more<S: Source + Drop, K: Sink + Drop, I: Intake>(
     end_wait(alloc, server, position, empty_line.as_slice())
 }
 
-/// Merges each delta of `intake` at a server, and writes the server's other changes to `out` as merge lines, from its
-/// first one on. It flushes each line at once.
+/// Merges each delta of `intake` at a server, and writes the server's other changes to `out` as merge lines, from the
+/// server's first change on. Each line is flushed at once.
 ///
-/// It returns once `intake` has ended and the server has no more changes. Until then it waits for either. At the server
-/// it does so by a `wait`, which it ends with an empty line.
+/// The relay returns once `intake` has ended and the server has no more changes. Until then it waits for a delta or a
+/// change. For a change it sends the server a `wait`, and ends that wait with an empty line.
 ///
 /// The reply `ok n` to a merge says that the delta became change `n` of the server. So the relay pulls and writes the
-/// changes before `n`, and leaves `n` out. A delta that the server refuses is settled with the refusal, and the next
-/// one follows.
+/// changes before change `n`, and leaves out change `n`. A delta that the server refuses is settled with the refusal,
+/// and the relay goes on with the next delta.
 ///
 /// # Errors
 ///
 /// - `Output`: `out` failed.
 /// - `Server`: the connection failed or was closed, a reply doesn't fit its request, or the server refused a pull or a
-///   wait or has no free session slot. Also when out of memory. A delta in hand that had no reply stays in hand.
+///   wait or has no free session slot. Also when out of memory. A delta in hand stays in hand unless a reply that fits
+///   has settled it.
 ///
 /// Cost: linear in the bytes of the lines, besides the wait for the server and for the intake.
 pub fn relay<S: Source + Drop, K: Sink + Drop, I: Intake, O: Sink>(

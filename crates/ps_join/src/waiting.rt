@@ -10,11 +10,13 @@ use ps_device::{Sink, Source};
 use ps_peers::{Peer, SyncFault, due_news, fault_of, put_wait};
 use std::alloc::Global;
 
-/// Says which of two waiting peers to read first. Any answer is right, but after a wrong one the join waits longer.
+/// Says which of two waiting peers to read first. The join is correct with any answer, but it waits longer if the named
+/// peer has sent nothing.
 ///
-/// Both peers were sent a `wait`, and reply once they have more changes.
+/// Both peers were sent a `wait`, and reply once they have more changes, or after some time.
 pub trait Attention {
-    /// Returns a peer that sent something, or whose connection ended. After a while without either it returns any.
+    /// Returns a peer that sent something, or whose connection ended. If for a while there is no such peer, returns
+    /// either of the two.
     ///
     /// Cost: the implementation's own, and the time until a peer sends something.
     fn next(&mut self) -> End;

@@ -1,28 +1,28 @@
-//! A file as a journal sees it.
+//! The traits by which a journal uses a file.
 ghost use Rattle.std.specs.Prelude.{◌≡◌, ◌≤◌, ◌++◌, ℕ, Bool, List, IfOk, OnOk, OnErr, false, true, is_err, length};
 ghost use Rattle.std.specs.Prelude.{take};
 
 use ps_device::Failed;
 
-/// A file that lines are appended to. After a call that failed it isn't used any more.
+/// A file that lines are appended to. After a call has failed, only [`Device::cut`] may be called.
 pub trait Device {
-    /// The bytes that it has, in order.
+    /// The bytes that were written to the file, in order.
     ghost written: { Self → List ℕ };
 
-    /// How many of them are on the disk: a crash leaves at least these.
+    /// How many of the written bytes are synced. A crash leaves at least this many, from the first on.
     ghost synced: { Self → ℕ };
 
-    /// A call failed.
+    /// Whether a call has failed.
     ghost has_failed: { Self → Bool };
 
-    /// It was cut to the bytes that are on the disk: whoever reads it next finds these alone, unless the machine
+    /// Whether the file was cut to its synced bytes. The next reader then finds only these bytes, unless the machine
     /// crashes before.
     ghost is_cut: { Self → Bool };
 
-    /// It couldn't be cut.
+    /// Whether a cut has failed.
     ghost cut_failed: { Self → Bool };
 
-    /// Appends these bytes, or a beginning of them where it fails.
+    /// Appends `bytes` to the file. If the call fails, a beginning of `bytes` may have been appended.
     ///
     /// Cost: linear in the bytes, and the time that the device takes.
     fn append(&mut self, bytes: &[u8]) -> Result<(), Failed>
@@ -33,7 +33,8 @@ pub trait Device {
         ensures failed { has_failed self.new ≡ is_err result }
         ensures cut { (is_cut self.new ≡ is_cut self.old) × (cut_failed self.new ≡ cut_failed self.old) };
 
-    /// Has all bytes on the disk. It may fail though they are, if the next start wouldn't find them.
+    /// Syncs the file: all written bytes are then durable. The call may also fail after a sync that succeeded, if the
+    /// next start might not find the bytes, say because the file was removed.
     ///
     /// Cost: the time that the device takes.
     fn sync(&mut self) -> Result<(), Failed>
@@ -45,10 +46,10 @@ pub trait Device {
         ensures failed { has_failed self.new ≡ is_err result }
         ensures cut { (is_cut self.new ≡ is_cut self.old) × (cut_failed self.new ≡ cut_failed self.old) };
 
-    /// Cuts the file to the bytes that are on the disk, after a call that failed.
+    /// Cuts the file to its synced bytes. Only called after another call has failed.
     ///
-    /// It doesn't cut a file that has other bytes than those written. If the machine crashes later, the file may still
-    /// have what was written.
+    /// A device may refuse to cut a file that somebody else has written to. If the machine crashes after the cut, the
+    /// file may again have bytes that were written and not synced.
     ///
     /// Cost: the time that the device takes.
     fn cut(&mut self) -> Result<(), Failed>
@@ -59,20 +60,20 @@ pub trait Device {
         ensures not_cut { OnErr result (cut_failed self.new ≡ true) };
 }
 
-/// A file as it is found at the start, before it is changed.
+/// A file that a start has found and read, and hasn't changed yet.
 pub trait Found {
-    /// What the file is once it is opened for appending.
+    /// The type of the file once [`Found::keep`] has opened it for appending.
     type Device: Device + Drop;
 
-    /// The bytes that it has.
+    /// The bytes of the file.
     ghost bytes: { Self → List ℕ };
 
-    /// All its bytes.
+    /// Returns all bytes of the file.
     fn bytes(&self) -> &[u8]
         ensures { result.now ≡ bytes self.now };
 
     /// Cuts the file to its first `count` bytes, syncs it, and opens it for appending. If the machine crashes
-    /// meanwhile, the file is a beginning of what it was, with at least these bytes.
+    /// meanwhile, a beginning of the file's old bytes is left, at least the first `count`. Fails if the device fails.
     ///
     /// Cost: the time that the device takes.
     fn keep(self, count: usize) -> Result<Self::Device, Failed>

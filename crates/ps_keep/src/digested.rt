@@ -1,4 +1,4 @@
-//! A file with digest lines, read and written as one without them.
+//! A file with digest lines, which its callers read and write as a file without them.
 ghost use Rattle.md5.specs.Md5.{Holds};
 ghost use Rattle.std.specs.Prelude.{◌≡◌, ◌++◌, ◌-◌, ◌≤◌, ℕ, List, IfOk, IfErr, drop, length, nat_lt, slice_get, take};
 ghost use Rattle.std.specs.List.{count_by};
@@ -17,12 +17,13 @@ use ps_device::Failed;
 use std::alloc::{AllocError, Global};
 use std::marker::Model;
 
-/// Why a file with digest lines isn't read.
+/// Why [`DigestedFile::read`] failed.
 #[derive(Clone, Copy, Debug, PartialEq, Eq)]
 pub enum DigestFault {
-    /// There is no memory for its lines.
+    /// Out of memory.
     Memory,
-    /// The line of this number, from 1 on, isn't the digest of the bytes before it.
+    /// A digest line is wrong: it isn't the digest of the bytes before it. The number is that of the first wrong one
+    /// among all lines of the file, from 1.
     Line(u64),
 }
 
@@ -48,7 +49,7 @@ struct CleanLines {
     numbers: LineNumbers,
 }
 
-/// Where the lines that aren't digest lines stand in their file.
+/// The positions of digest lines in a file, by which [`LineNumbers::in_file`] converts line numbers.
 #[derive(Drop)]
 pub struct LineNumbers {
     /// for each digest line, how many other lines stand before it
@@ -71,10 +72,11 @@ impl Model for LineNumbers {
 }
 
 impl LineNumbers {
-    /// Returns the number in the file of the line that has this number among those that aren't digest lines. Both count
-    /// from 1. A number past the last of them is taken as if more lines stood at the end.
+    /// Converts a line number of the file without its digest lines into a line number of the whole file, and returns
+    /// it. Both numbers count from 1. If `number` is past the last line, the file is taken to go on with lines that
+    /// aren't digest lines.
     ///
-    /// Cost: linear in the count of digest lines.
+    /// Cost: linear in the number of digest lines.
     pub fn in_file(&self, number: u64) -> u64
         ensures { (lines : List (List ℕ)) → AreNumbered lines self.now → 1 ≤ number → number ≤ length (others lines)
             → slice_get lines (result - 1) ≡ slice_get (others lines) (number - 1) }
@@ -135,7 +137,9 @@ fn read_lines(alloc: Global, bytes: &[u8]) -> Result<CleanLines, DigestFault>
     })
 }
 
-/// A found file with digest lines, whose bytes are those of its other lines. A contract sees it as a `FoundView`.
+/// A found file with digest lines, which shows only the bytes of its other lines.
+///
+/// A contract sees a `DigestedFile` as a `FoundView`: the bytes of the file, and the bytes that it shows.
 #[derive(Drop)]
 pub struct DigestedFile<F: Found + Drop> {
     found: F,
@@ -157,17 +161,17 @@ impl<F: Found + Drop> Model for DigestedFile<F> {
 }
 
 impl<F: Found + Drop> DigestedFile<F> {
-    /// Checks the digest lines of a file, and copies its other lines, with the numbers that these have in the file. A
-    /// file without a whole line is copied as it is.
+    /// Checks the digest lines of `found`, and returns the file with a copy of its other lines, and a converter of line
+    /// numbers. Bytes after the last line feed aren't copied, unless the file has no line feed at all.
     ///
-    /// It doesn't change the file.
+    /// The call doesn't change the file.
     ///
     /// # Errors
     ///
     /// - `Line`: the number of the first digest line that isn't the digest of the bytes before it.
     /// - `Memory`: out of memory.
     ///
-    /// Both return the file as it was.
+    /// Both errors come with `found`, unchanged.
     ///
     /// Cost: linear in the file, and its memory once more.
     pub fn read(alloc: Global, found: F) -> Result<(DigestedFile<F>, LineNumbers), (DigestFault, F)>
@@ -207,8 +211,8 @@ impl<F: Found + Drop> Found for DigestedFile<F> {
         self.clean.as_slice()
     }
 
-    /// Cuts the file after its whole lines. Fails if `count` bytes aren't all whole lines that this file shows. (A
-    /// journal's start passes no other count.)
+    /// Cuts the file after its last whole line. Fails if `count` isn't the number of bytes of all whole lines that this
+    /// file shows, or if the inner file fails. ([`open`](crate::open) passes no other count.)
     fn keep(self, count: usize) -> Result<DigestedDevice<F::Device>, Failed> {
         let DigestedFile {
             found,
@@ -234,9 +238,11 @@ impl<F: Found + Drop> Found for DigestedFile<F> {
     }
 }
 
-/// A file that gets a digest line after each write that ends a line. A contract sees it as a `DeviceView`.
+/// A device that adds a digest line to its file after each write that ends a line. A contract sees a `DigestedDevice`
+/// as a `DeviceView`.
 ///
-/// As a `Device` it has what its caller wrote. After a call that failed these may be more bytes than the file has.
+/// As a [`Device`] its written bytes are those that the caller wrote, without the digest lines. After a failed call the
+/// file may lack the last of these bytes.
 #[derive(Drop)]
 pub struct DigestedDevice<D: Device + Drop> {
     inner: D,
@@ -302,10 +308,15 @@ impl<D: Device + Drop> Device for DigestedDevice<D> {
     }
 }
 
-/// Shows that such a file ends in a digest line as soon as something was written and ends a line. A start takes it as
-/// any crash leaves it, and reads what a crash could leave of the bytes that the caller wrote. After a cut it reads
-/// those that were synced. If a crash has torn the end, a wrong digest line stands after all lines that were on the
-/// disk. The caller's own lines must not have the form of digest lines.
+/// Shows what a start finds in a file that was written with digest lines. All this holds only if the caller's own lines
+/// don't have the form of digest lines.
+///
+/// - After a crash the digest lines that are left are right, and a start reads what a crash could leave of the bytes
+///   that the caller wrote.
+/// - After a cut a start reads the synced bytes.
+/// - If the caller has written something that ends a line, and no call has failed, the file ends in a digest line.
+/// - If a crash has torn the end of the file, so that any bytes stand after the synced ones, a wrong digest line can
+///   only stand after all synced lines.
 pub fn digested_files_survive<D: Device + Drop>(device: &DigestedDevice<D>)
     ensures crashes { HaveNoDigests (whole_lines device.now.written)
         → ReadsAfterCrashes device.now.raw device.now.on_disk device.now.written device.now.synced }

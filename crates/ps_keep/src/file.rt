@@ -1,4 +1,4 @@
-//! A file of the system.
+//! A file of the operating system.
 ghost use Rattle.std.specs.Prelude.{◌≡◌, ◌≤◌, length};
 
 use crate::device::{Device, Found};
@@ -13,33 +13,33 @@ use std::path::{AsPath, Path};
 use std::rt::HostRuntime;
 use std::{fmt, io};
 
-/// Why a file couldn't be opened.
+/// Why [`FoundFile::open`] failed.
 #[derive(Clone, Copy, Debug, PartialEq, Eq)]
 pub enum FileFault {
-    /// There is no memory for its bytes.
+    /// Out of memory.
     Memory,
-    /// The system didn't do what was asked.
+    /// A system call failed, or the file can't be used, for this cause.
     Device(FileCause),
-    /// Another process has the file.
+    /// Another process has locked the file.
     Busy,
 }
 
-/// Why a file can't be used. Its text comes after the file's path.
+/// Why a file can't be used. Displaying a cause writes text that makes sense after the file's path.
 #[derive(Clone, Copy, Debug, PartialEq, Eq)]
 pub enum FileCause {
-    /// The system's reason, by its number.
+    /// A system call failed with this error number (`errno`).
     System(i32),
-    /// It is a device, a pipe or the like.
+    /// The file isn't regular: it is a device, a pipe or the like.
     NotRegular,
-    /// It lost its name while it was opened.
+    /// The file was removed or replaced while [`FoundFile::open`] opened it.
     Removed,
-    /// While it was kept open it lost its name.
+    /// The file was removed or replaced after it was opened.
     Unnamed,
-    /// While it was kept open it was moved, or its path led elsewhere.
+    /// The path no longer leads to the opened file, but to no file or to another one.
     Moved,
-    /// While it was kept open it got another length than was written.
+    /// The file's length isn't what was written: somebody else has cut the file or written to it.
     Resized,
-    /// The system gave no reason.
+    /// The system gave no error number.
     Unknown,
 }
 
@@ -61,7 +61,7 @@ impl fmt::Display for FileCause {
 }
 
 impl FileCause {
-    /// Returns the cause of a call of the system that failed.
+    /// Returns the cause for `error`, which a failed system call has returned.
     pub fn of(error: &io::Error) -> FileCause {
         match error.raw_os_error() {
             Some(code) => FileCause::System(code),
@@ -98,7 +98,8 @@ impl FilePlace {
     }
 }
 
-/// A file as it is found, locked against other processes that lock it.
+/// A file that was opened, locked and read, and hasn't been changed yet. The lock only keeps out processes that lock
+/// the file themselves.
 #[derive(Drop)]
 pub struct FoundFile {
     file: File,
@@ -110,9 +111,14 @@ pub struct FoundFile {
 }
 
 impl FoundFile {
-    /// Opens the file of this path, or makes it, locks it, has its name on the disk and reads it. Refused as `Busy`
-    /// where another process has it locked, and as `Device` where it is no regular file or has lost its name meanwhile;
-    /// such a file isn't read. If a later call of the file fails, `reason` gets to know why.
+    /// Opens the file at `path`, or creates it if there is none, locks and reads it, and returns it. The folder is
+    /// synced, so that the file's name is durable. If a later call on the file fails, `reason` stores why.
+    ///
+    /// # Errors
+    ///
+    /// - `Memory`: out of memory.
+    /// - `Busy`: another process has locked the file.
+    /// - `Device`: a system call failed, the file isn't regular, or it was removed meanwhile.
     ///
     /// Cost: linear in the file, and its memory; one sync of the folder.
     pub fn open(
@@ -247,11 +253,11 @@ fn noted(reason: &FailureReason, done: io::Result<()>) -> Result<(), Failed> {
     }
 }
 
-/// A file that is appended to. Its clauses say what the system's calls returned; that the system does what it returns
-/// is trusted.
+/// A file of the operating system that is appended to. Its contracts say what system calls returned. It is trusted that
+/// the system did what its calls returned.
 ///
-/// A sync also fails if the file was removed, moved, replaced or cut, or another program wrote to it: then the next
-/// start may not find what was synced. A file of another length isn't cut afterwards.
+/// A sync also fails if the file was removed, moved or replaced, or if its length isn't what was written. The next
+/// start might not find the synced bytes then. A file whose length isn't what was written isn't cut: its cut fails.
 #[derive(Drop)]
 pub struct KeptFile {
     file: File,

@@ -10,8 +10,9 @@ use std::alloc::{AllocError, Global};
 use std::marker::Model;
 use std::snapshot::Snapshot;
 
-/// Lines that are to outlive a crash. A line is noted first, and acknowledged once a sync has all that were noted on
-/// the disk; so one sync serves many lines. A contract sees it as a `JournalView`.
+/// A file of lines that outlive a crash. [`Journal::note`] first stores a line in memory. [`Journal::sync`] then makes
+/// all noted lines durable and so acknowledges them: one sync serves many lines. A contract sees a journal as a
+/// `JournalView`.
 #[derive(Drop)]
 pub struct Journal<D: Device + Drop> {
     device: D,
@@ -93,7 +94,8 @@ impl<D: Device + Drop> Journal<D> {
         }
     }
 
-    /// Notes a line. It isn't acknowledged yet. Refused out of memory.
+    /// Notes `line`, which has no line feed: the next sync writes and acknowledges it. Fails only when out of memory,
+    /// and then nothing has changed.
     ///
     /// Cost: linear in the line; the device isn't called.
     pub fn note(&mut self, line: &[u8]) -> Result<(), AllocError>
@@ -116,11 +118,11 @@ impl<D: Device + Drop> Journal<D> {
     /// Syncs all lines that were noted, and acknowledges them. If none was noted since the last sync, it doesn't call
     /// the device.
     ///
-    /// Fails if the device does, and from then on always. After a failure it tries to cut the file to the acknowledged
-    /// lines. At any moment of the call, also if the machine crashes, the file has all lines that were acknowledged
-    /// before, and after them a beginning of those that were noted.
+    /// Fails if the device fails, and after that always. When the device fails, the call tries to cut the file to the
+    /// acknowledged lines. At any moment of the call, also if the machine crashes, the file has all lines that were
+    /// acknowledged before, and after them a beginning of the noted lines that weren't.
     ///
-    /// Cost: one append and one sync.
+    /// Cost: one append and one sync of the device.
     pub fn sync(&mut self) -> Result<(), Failed>
         ensures acknowledged { OnOk result (self.new.kept ≡ self.old.lines) }
         ensures not_yet { OnErr result (self.new.kept ≡ self.old.kept) }

@@ -10,15 +10,16 @@ pub fn crashes_keep_the_acknowledged()
     ensures { (j : JournalView) → IsJournal j → SurvivesCrashes j.written j.synced j.kept j.lines }
 {}
 
-/// Shows that the lines of a file with a torn end still begin with all that were acknowledged.
+/// Shows that the lines of a journal's file still begin with all acknowledged ones if a crash has torn the file's end,
+/// so that any bytes stand after the synced ones.
 pub fn tears_keep_the_acknowledged()
     ensures { (j : JournalView) → IsJournal j → SurvivesTears j.written j.synced j.kept }
 {}
 
 /// Shows that after a failed sync the file has the acknowledged lines and nothing else, if it could be cut.
 ///
-/// The next reader finds this, unless the machine crashes before. So no start takes a line for durable that no sync has
-/// confirmed.
+/// The next reader finds exactly these lines, unless the machine crashes before. So no start takes a line for durable
+/// that no sync has confirmed.
 pub fn failed_journals_leave_the_acknowledged()
     ensures { (j : JournalView) → IsJournal j → j.has_failed ≡ true → j.cut_failed ≡ false
         → (j.found ≡ text j.kept) × (whole_lines j.found ≡ j.kept) }

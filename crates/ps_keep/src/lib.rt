@@ -1,46 +1,48 @@
 //! A journal: lines that outlive a crash.
 //!
-//! A [`Journal`] is a file that lines are appended to. A line is noted first, and acknowledged after a sync of all that
-//! were noted; so one sync serves many lines. At the start [`first_line`] reads the whole lines of the file one after
-//! another. Then [`open`] makes it a journal, and cuts off a piece after the last line feed, left by a crash during a
-//! write.
+//! A [`Journal`] is a file that lines are appended to. A line is noted first, and acknowledged after a sync of all
+//! noted lines; so one sync serves many lines. At the start [`first_line`] reads the whole lines of the file one after
+//! another. Then [`open`] makes the file a journal, and cuts off the bytes after the last line feed, which a crash
+//! during a write has left.
 //!
-//! It is not the sheet: it knows no deltas and no replicas, and its caller decides which lines a file may have. It
-//! starts no thread. Its only lock is that of the file, which ends with the process.
+//! This crate is not the sheet: it knows no deltas and no replicas, and its caller decides which lines a file may have.
+//! It starts no thread. Its only lock is that of the file, which ends with the process.
 //!
 //! The contracts to use:
 //!
-//! - [`Journal::sync`]: all noted lines are durable after it. After a failure those acknowledged before are, and the
-//!   file is cut to them if it can be.
+//! - [`Journal::sync`]: after a sync all noted lines are durable. After a failed sync the lines that were acknowledged
+//!   before are still durable, and the file is cut to these lines if possible.
 //! - [`open`]: the journal's lines are the whole lines of the file.
-//! - The laws: the lines of the file after a crash begin with all acknowledged ones, and are a beginning of the noted
-//!   ones.
-//! - [`DigestedFile::read`]: the digest lines are right, and the file's other lines are its bytes.
-//! - [`digested_files_survive`]: a start takes the file after a crash, and reads what a crash could leave of the lines
-//!   without digests.
+//! - The laws: the lines of the file after a crash begin with all acknowledged lines, and are a beginning of the noted
+//!   lines.
+//! - [`DigestedFile::read`]: the file's digest lines are right, and the returned file shows the bytes of its other
+//!   lines.
+//! - [`digested_files_survive`]: a start accepts the file after a crash, and reads what a crash could leave of the
+//!   lines without digests.
 //!
 //! A [`DigestedFile`] is a found file that has digest lines, by which a start sees damage. A digest line is the word
-//! `replica`, a space and 16 hex digits. They are the first 8 bytes of an MD5: that of all bytes from the last digest
-//! line on, or from the file's beginning. [`DigestedFile::read`] checks each of them, and returns the number of the
-//! first wrong one. Then the file's bytes are its other lines, and its device appends a digest line after each write
-//! that ends a line. So a journal knows nothing of digests, and each sync of one writes a digest line. A file without
-//! digest lines gets them from the next sync on. The lines after the last digest line, left by a crash, aren't checked.
-//! MD5 shows accidents, not intent.
+//! `replica`, a space and 16 hex digits. The digits are the first 8 bytes of the MD5 of all bytes from the previous
+//! digest line on, this line included, or from the file's beginning. [`DigestedFile::read`] checks each digest line,
+//! and fails with the number of the first wrong one. If all are right, the returned file shows only its other lines.
+//! Its device appends a digest line after each write that ends a line. So a journal knows nothing of digests, and each
+//! sync of a journal with new lines writes a digest line. A file without digest lines gets them from the next sync on.
+//! The lines after the last digest line, left by a crash, aren't checked. MD5 shows accidents, not intent.
 //!
-//! Only [`open`] cuts a found file, and takes it. So a caller that reads a file first and refuses it leaves it as it
-//! was.
+//! Only [`open`] cuts a found file. So a caller that reads a file and then refuses it leaves the file as it was.
 //!
-//! The devices are memory ([`MemoryFile`], [`MemoryDevice`]), which can be made to fail, and a file of the system
-//! ([`FoundFile`], [`KeptFile`]). Clauses of the latter say what the system's calls returned. That the system keeps
-//! what it synced, in order, is trusted. A sync of a [`KeptFile`] also fails if the file's path no longer leads to it, or
-//! if it has another length than was written. No clause says so. A journal has its device to its end. A caller that needs
-//! the device afterwards passes a [`Found`] of its own that borrows it.
+//! There are two kinds of files: in memory ([`MemoryFile`], [`MemoryDevice`]), which can be made to fail, and of the
+//! operating system ([`FoundFile`], [`KeptFile`]). Contracts of the latter say what system calls returned. It is
+//! trusted that the system keeps what it synced, in order. A sync of a [`KeptFile`] also fails if the file's path no
+//! longer leads to the file, or if the file's length isn't what was written. No contract says so. A journal has its
+//! device until the journal is dropped. A caller that needs the device afterwards passes a [`Found`] of its own that
+//! borrows the device.
 //!
-//! A file has the lines `ab` and `cd` and a piece `e`: [`first_line`] reads `ab`, then `cd`, then none, and [`open`]
-//! cuts `e` off. After a note of `fg` and a sync the file has `ab`, `cd` and `fg`, each with its line feed.
+//! Say a file has the lines `ab` and `cd`, and then `e` without a line feed. [`first_line`] returns `ab`, then `cd`,
+//! then `None`, and [`open`] cuts `e` off. After `fg` is noted and synced, the file has `ab`, `cd` and `fg`, each with
+//! its line feed.
 //!
-//! Cost: a found file has its bytes in memory; each sync of a journal is one append to the file and one sync of it.
-//! With digest lines the file is in memory twice until [`open`] takes it, and each sync appends twice.
+//! Cost: a found file has its bytes in memory. Each sync of a journal is one append to the file and one sync of the
+//! file. With digest lines the file is in memory twice until [`open`] takes it, and each sync appends twice.
 #![tactic(auto)]
 
 mod device;

@@ -4,18 +4,18 @@ ghost use Rattle.std.specs.Prelude.{◌≡◌, ◌≤◌, false, vec_len};
 use crate::device::{Device, Found};
 use ps_device::Failed;
 
-/// A file of memory that lines are appended to.
+/// A file in memory that lines are appended to, and that can be made to fail.
 #[derive(Drop)]
 pub struct MemoryDevice {
-    /// What it was given.
+    /// All bytes that were written.
     pub bytes: Vec<u8>,
-    /// How many of these a crash leaves for certain.
+    /// How many of the bytes are synced: a crash leaves at least these, from the first on.
     pub synced: usize,
-    /// How many calls go well before one fails.
+    /// How many more calls succeed: after them each append and sync fails.
     pub calls: u64,
-    /// A call failed.
+    /// Whether a call has failed. A call also fails when out of memory.
     pub is_broken: bool,
-    /// It was cut to what was synced. (`bytes` has the rest still, which a crash may leave.)
+    /// Whether the file was cut to its synced bytes. `bytes` still has the others, which a crash may leave.
     pub is_cut: bool,
     ghost within: { synced ≤ vec_len bytes },
 }
@@ -73,12 +73,12 @@ impl Device for MemoryDevice {
     }
 }
 
-/// A file of memory as it is found.
+/// A file in memory that a start finds, and that can be made to fail.
 #[derive(Drop)]
 pub struct MemoryFile {
-    /// Its bytes.
+    /// The bytes of the file.
     pub bytes: Vec<u8>,
-    /// How many calls go well before one fails.
+    /// How many calls succeed, opening the file included: after them each call but a cut fails.
     pub calls: u64,
 }
 

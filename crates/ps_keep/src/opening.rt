@@ -9,7 +9,8 @@ use memchr::{memchr, memrchr};
 use ps_device::Failed;
 use std::alloc::Global;
 
-/// Returns the first whole line of these bytes, without its line feed, and all after it; none if no line feed is left.
+/// Returns the first whole line of `bytes`, without its line feed, and the bytes after the line feed. Returns `None` if
+/// `bytes` has no line feed.
 ///
 /// Cost: linear in the line.
 pub fn first_line(bytes: &[u8]) -> Option<(&[u8], &[u8])>
@@ -34,12 +35,12 @@ pub(crate) fn count_whole(bytes: &[u8]) -> usize
     }
 }
 
-/// Opens a file as a journal of its whole lines.
+/// Opens a found file as a journal of its whole lines, and returns the journal.
 ///
-/// A piece after the last line feed, left by a crash during a write, is cut off. If the machine crashes meanwhile, the
-/// file has the same lines. Fails if the device fails.
+/// The call cuts off all bytes after the last line feed, which a crash during a write has left. If the machine crashes
+/// during the call, the file still has the same whole lines. The call fails if [`Found::keep`] fails.
 ///
-/// Cost: linear in the piece that is cut off, and one sync.
+/// Cost: linear in the bytes that are cut off, and one sync.
 pub fn open<F: Found + Drop>(alloc: Global, found: F) -> Result<Journal<F::Device>, Failed>
     ensures lines { IfOk result (λ j. j.lines ≡ whole_lines (F.bytes found)) }
     ensures kept { IfOk result (λ j. j.kept ≡ whole_lines (F.bytes found)) }

@@ -21,31 +21,31 @@ const MOVED: i32 = -5;
 
 const UNKNOWN: i32 = -6;
 
-/// The reason of the first call of a file that failed, shared by the file and by whoever reports it. A
-/// [`Failed`](ps_device::Failed) has none.
+/// A shared slot for the cause of a file's first failure: the file stores the cause, and whoever reports the failure
+/// reads it. The error [`Failed`](ps_device::Failed) itself has no cause.
 ///
-/// No clause says what it holds.
+/// No contract says which cause the slot holds.
 #[derive(Drop)]
 pub struct FailureReason {
     first: Arc<AtomicI32>,
 }
 
 impl FailureReason {
-    /// Creates the reason of a file that hasn't failed. Refused out of memory.
+    /// Creates an empty slot, for a file that hasn't failed. Fails when out of memory.
     pub fn new(alloc: Global) -> Result<FailureReason, AllocError> {
         Ok(FailureReason {
             first: Arc::new(alloc, AtomicI32::new(NONE))?,
         })
     }
 
-    /// Returns another handle of the same reason. Refused out of memory.
+    /// Returns another handle of the same slot. Fails only if the slot already has as many handles as can be counted.
     pub fn share(&self) -> Result<FailureReason, AllocError> {
         Ok(FailureReason {
             first: Arc::clone(&self.first)?,
         })
     }
 
-    /// Notes why a call failed, unless another has failed before.
+    /// Stores why a call failed, unless the cause of an earlier failure is stored already.
     pub fn note(&self, cause: FileCause) {
         let code = match cause {
             FileCause::System(code) if code > NONE => code,
@@ -61,12 +61,12 @@ impl FailureReason {
             .compare_exchange(NONE, code, Ordering::SeqCst, Ordering::SeqCst);
     }
 
-    /// Notes what the system said.
+    /// Stores the cause for a system call's `error`, as [`FailureReason::note`] does.
     pub fn note_error(&self, error: &io::Error) {
         self.note(FileCause::of(error));
     }
 
-    /// Returns why the first call failed, if one did.
+    /// Returns the cause of the first failure, or `None` if no call has failed.
     pub fn cause(&self) -> Option<FileCause> {
         match self.first.load(Ordering::SeqCst) {
             NONE => None,

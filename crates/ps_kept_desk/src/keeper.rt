@@ -18,16 +18,16 @@ use std::alloc::Global;
 use std::marker::Model;
 use std::sync::{Mutex, Wait};
 
-/// A keeper that makes the changes of a desk durable in a journal, for all its sessions.
+/// A keeper that makes the changes of a desk durable in a journal, for all the desk's sessions.
 #[derive(Drop)]
 pub struct DeskKeeper<L: DeskName, D: Device + Drop> {
     record: Mutex<Record<L, D>>,
 }
 
 impl<L: DeskName, D: Device + Drop> DeskKeeper<L, D> {
-    /// Creates the keeper of a desk that was just opened. `passes` are the desk's new ones, and `changes` is how many
-    /// changes the sheet had when it was opened. The journal's lines are the replica line and those of these changes,
-    /// all durable.
+    /// Creates the keeper of a desk that was just opened. `passes` are the passes that the desk was opened with, and
+    /// `changes` is the number of changes that its sheet had then. The journal's lines are the replica line and one
+    /// line for each of these changes, all durable.
     pub fn new<W: Wait + Drop>(
         journal: Journal<D>,
         desk: &Desk<L, W>,
@@ -71,10 +71,11 @@ impl<L: DeskName, D: Device + Drop> DeskKeeper<L, D> {
         Ok(record.kept())
     }
 
-    /// Makes all published changes durable, for a caller without a session slot, and returns the token for them. It
-    /// fails as a session's sync does.
+    /// Makes all published changes durable, for a caller without a session slot, and returns the token for the durable
+    /// list. The call fails if the device fails or has failed before, or when out of memory.
     ///
-    /// Cost: that of a sync if some change isn't durable yet. It may wait while others sync.
+    /// Cost: that of a sync if some change isn't durable yet. The call may wait while sessions sync, for the desk's
+    /// lock, and for readers of an older copy.
     pub fn keep_shown<W: Wait + Drop, V: Wait>(
         &self,
         wait: &V,
@@ -90,11 +91,12 @@ impl<L: DeskName, D: Device + Drop> DeskKeeper<L, D> {
     /// Ends the desk and its keeper, and returns the sheet and the journal.
     ///
     /// `passes` are the passes of all slots, and `told` the tokens of what the sessions reported as durable. Unless the
-    /// device failed before, lines that aren't durable yet are added, and the journal is synced once more.
+    /// device failed before, the call adds the lines that aren't durable yet, and syncs the journal once more. Whether
+    /// this last sync succeeded is `synced` of the result.
     ///
-    /// Of the sheet it guarantees what [`Desk::close`] does. The journal's durable lines are those of a beginning of
-    /// the sheet's history, which has all that `told` stands for. They are those of the whole history if the last sync
-    /// succeeded.
+    /// The sheet is what [`Desk::close`] would return. The journal's durable lines are those of a beginning of the
+    /// sheet's history, and this beginning has all changes that `told` stands for. If the last sync succeeded, the
+    /// beginning is the whole history.
     ///
     /// Cost: that of freeing the published copies, and of a sync.
     pub fn close<W: Wait + Drop, V: Wait>(
@@ -120,8 +122,8 @@ impl<L: DeskName, D: Device + Drop> DeskKeeper<L, D> {
     }
 }
 
-/// The keeper of one session at a desk. A contract sees it as the beginning of the desk's published list that it
-/// reported as durable.
+/// The keeper of one session at a desk. A contract sees the keeper as the beginning of the desk's published list that
+/// the keeper knows to be durable.
 #[derive(Drop)]
 pub struct SeatKeeper<'a, L: DeskName, W: Wait + Drop, D: Device + Drop, V: Wait> {
     keeper: &'a DeskKeeper<L, D>,
@@ -146,7 +148,7 @@ impl<'a, L: DeskName, W: Wait + Drop, D: Device + Drop, V: Wait> Model
 }
 
 impl<'a, L: DeskName, W: Wait + Drop, D: Device + Drop, V: Wait> SeatKeeper<'a, L, W, D, V> {
-    /// Creates the keeper of a session that begins. It may wait while others sync.
+    /// Creates the keeper of a session that begins. The call may wait while other sessions sync.
     pub fn new(
         keeper: &'a DeskKeeper<L, D>,
         desk: &'a Desk<L, W>,
@@ -161,7 +163,7 @@ impl<'a, L: DeskName, W: Wait + Drop, D: Device + Drop, V: Wait> SeatKeeper<'a, 
         }
     }
 
-    /// Ends the keeper, and returns the token for what it reported as durable.
+    /// Ends the keeper, and returns the token for the list that this keeper knows to be durable.
     pub fn leave(self) -> DurablePosition<L>
         ensures { result ≡ self.entry }
     {
@@ -185,8 +187,8 @@ impl<'a, L: DeskName, W: Wait + Drop, D: Device + Drop, V: Wait> SeatKeeper<'a, 
     }
 }
 
-/// The sync of a session at a desk: all that the session has seen is then shown to everyone and durable, whichever
-/// session made it.
+/// The sync of a session at a desk. After it all changes that the session has seen are shown to everyone and durable,
+/// whichever session made them.
 impl<L: DeskName, W: Wait + Drop, D: Device + Drop, V: Wait, U: Wait> Keeper<Seat<'_, L, W, U>>
     for SeatKeeper<'_, L, W, D, V> {
     ghost use Rattle.std.specs.Prelude.{⊤};

@@ -20,10 +20,10 @@ use std::alloc::Global;
 use std::marker::Model;
 use std::sync::Wait;
 
-/// A token for a beginning of a desk's published list of changes that is shown to everyone and durable. A contract sees
-/// it as that list.
+/// A token for a beginning of a desk's published list that is shown to everyone and durable. A contract sees the token
+/// as this beginning.
 ///
-/// Only the keeper of a desk makes one, from what it has made durable.
+/// Only the keeper of a desk creates a new token, for what the keeper has made durable.
 #[derive(Drop)]
 pub struct DurablePosition<L: DeskName> {
     shown: ShownPosition<L>,
@@ -52,14 +52,15 @@ impl<L: DeskName> DurablePosition<L> {
         }
     }
 
-    /// Returns the token that the same beginning is shown to everyone.
+    /// Returns the token which proves that the same beginning is shown to everyone.
     pub fn shown(&self) -> &ShownPosition<L>
         ensures { result.now ≡ self.now }
     {
         &self.shown
     }
 
-    /// Returns whether this beginning reaches up to `position`. If it does, the list is durable up to there.
+    /// Returns whether this durable beginning is at least as long as `position`, so that the list is durable up to
+    /// `position`.
     pub fn has(&self, position: &Position<L>) -> bool
         ensures { MatchBool result
             (IsPrefix position.now self.now × (length position.now ≤ length self.now))
@@ -68,8 +69,8 @@ impl<L: DeskName> DurablePosition<L> {
         self.shown.has(position)
     }
 
-    /// Returns whether the other token stands for a list of at least this one's length. Then the other's list begins
-    /// with this one's.
+    /// Returns whether the beginning of `other` is at least as long as this one. Both are beginnings of the same list,
+    /// so then the beginning of `other` begins with this one.
     pub fn begins(&self, other: &DurablePosition<L>) -> bool
         ensures { MatchBool result
             (IsPrefix self.now other.now × (length self.now ≤ length other.now))
@@ -79,14 +80,14 @@ impl<L: DeskName> DurablePosition<L> {
     }
 }
 
-/// What remains of a desk and its keeper after their close.
+/// What [`DeskKeeper::close`](crate::DeskKeeper::close) returns of the desk and its keeper.
 #[derive(Drop)]
 pub struct Ended<D: Device + Drop> {
     /// The desk's sheet.
     pub sheet: Sheet,
     /// The desk's journal.
     pub journal: Journal<D>,
-    /// Whether the last sync succeeded, so that the whole history is durable.
+    /// `Ok` if the last sync succeeded, so that the whole history is durable.
     pub synced: Result<(), Failed>,
 }
 

@@ -32,7 +32,8 @@ fn record_is_send<L: DeskName + Send, D: Device + Drop + Send>()
     is_send::<ShownPosition<L>>();
 }
 
-/// States that threads may share a keeper. Call it before sharing one.
+/// States that threads may share a [`DeskKeeper`](crate::DeskKeeper), if `L` and `D` may move to another thread. The
+/// function does nothing at run time. Callers call it before they share a keeper, so that the prover has the fact.
 pub fn keeper_is_sync<L: DeskName + Send, D: Device + Drop + Send>()
     ensures { IsSync (keeper.the_row L.row D.row (record { replica = L.replica })
         (record { book = L.book; opening = L.opening }) L.Ledger

@@ -1,4 +1,4 @@
-//! What a line asks for.
+//! Reads a line as a command: what the line asks for.
 ghost use Rattle.std.specs.Prelude.{◌≡◌, ◌≢◌, ◌∷◌, [], ℕ, Err, List, Ok, Some};
 ghost use Rattle.std.specs.Option.{ok_or};
 ghost use Rattle.ps_lines.specs.Words.{after_word, parts, whole_number, words};
@@ -18,7 +18,7 @@ use std::alloc::Global;
 /// What a line asks for.
 #[derive(Drop)]
 pub enum Command {
-    /// Change the sheet.
+    /// Make an edit: `set`, `add`, `sub`, `choose` or `unchoose`.
     Edit(Edit),
     /// Show a cell.
     Get(Cell),
@@ -32,16 +32,17 @@ pub enum Command {
     Pull {
         /// The version: the number of changes that the client has.
         from: u64,
-        /// The most deltas to join, 1 to [`LARGEST_GROUP`]; none for the next delta alone.
+        /// The most deltas to join, 1 to [`LARGEST_GROUP`]; `None` for the next delta alone.
         most: Option<u8>,
     },
-    /// Take in a delta made elsewhere.
+    /// Take in a delta made elsewhere, as a whole.
     Push(Delta),
-    /// Take in what is new of a delta made elsewhere.
+    /// Take in only the parts of a delta made elsewhere that are new to the sheet.
     Merge(Delta),
-    /// Return the number of the own replica. The number in the line, if there is one, makes no difference.
+    /// Return the number of the sheet's own replica. The field is the number in the line, if the line has one, and
+    /// makes no difference to the reply.
     Replica(Option<u8>),
-    /// Return the version, once there are more changes than this number.
+    /// Wait until there are more changes than this number, or for some time, and return the version.
     Wait(u64),
 }
 
@@ -52,22 +53,23 @@ impl Command {
     /// Returns what a line asks for, or why it is refused:
     ///
     /// - `get <cell>`: show a cell;
-    /// - `set <cell> <entry>`: assign what the entry stands for to a cell; `set <cell>` makes it blank;
+    /// - `set <cell> <entry>`: assign to a cell what the entry stands for; `set <cell>` makes the cell blank;
     /// - `add <cell> <amount>` and `sub <cell> <amount>`: change a cell's counter;
     /// - `choose <cell> <option>` and `unchoose <cell> <option>`: change a cell's set of options;
     /// - `rows <cell>:<cell>`: show a rectangle;
-    /// - `entry <cell>` and `entries <cell>:<cell>`: return the entry of a cell, or those of a rectangle;
+    /// - `entry <cell>` and `entries <cell>:<cell>`: return the entry of a cell, or the entries of a rectangle;
     /// - `pull <from>`: return the next delta after the first `from` changes;
-    /// - `pull <from> <most>`: return at most `most` deltas after those changes, joined into one;
-    /// - `push <delta>`: take in a delta; its text is all that follows the space;
-    /// - `merge <delta>`: take in what is new of a delta;
-    /// - `replica`, `replica <number>` and `replica <digest>`: return the number of the own replica. A second word
-    ///   makes no difference; lines of kept files have one;
-    /// - `wait <from>`: wait until there are more than `from` changes, and return the version.
+    /// - `pull <from> <most>`: return at most `most` deltas after the first `from` changes, joined into one;
+    /// - `push <delta>`: take in a delta, whose text is all that follows the space;
+    /// - `merge <delta>`: take in only the parts of a delta that are new to the sheet;
+    /// - `replica`, `replica <number>` and `replica <digest>`: return the number of the sheet's own replica. A second
+    ///   word makes no difference; the `replica` lines of kept files have one;
+    /// - `wait <from>`: wait until there are more than `from` changes, or for some time, and return the version (the
+    ///   number of changes).
     ///
-    /// Exactly one space stands between two words; an entry may hold more. `decoder` decodes a delta. Only a delta, a
-    /// formula and a text take memory. Whether an amount or an option is in range, and whether the cell has a counter
-    /// or a set, isn't checked here.
+    /// Exactly one space stands between two words; an entry may hold more spaces. `decoder` decodes a delta. Only a
+    /// delta, a formula or a text takes memory. Whether an amount or an option is in range, and whether the cell has a
+    /// counter or a set, isn't checked here.
     ///
     /// # Errors
     ///
@@ -79,7 +81,7 @@ impl Command {
     /// - `Version`: a `from` that isn't a decimal number of at most 64 bits, or a `most` that isn't 1 to 16;
     /// - `Replica`: a second word that is neither a number of 1 to [`REPLICAS`] nor a digest (16 hex digits in lower
     ///   case);
-    /// - a refusal of [`read_entry`], or `Delta` for a text that isn't a delta's;
+    /// - a refusal of [`read_entry`] for the entry of a `set`, or `Delta` for a text that isn't that of a delta;
     /// - `Memory`: out of memory.
     ///
     /// Cost: O(n) in the n bytes of the line.

@@ -11,7 +11,8 @@ const DIGEST_DIGITS: usize = 16;
 
 /// Returns whether a line is exactly `replica`, one space and a digest: 16 hex digits in lower case.
 ///
-/// A session answers such a line as it answers `replica`, and `squash` skips it. It says nothing about the sheet.
+/// In a kept file, such a line is a checksum of the bytes before the line, and holds no change of the sheet. A session
+/// answers the line as it answers `replica`.
 pub fn is_digest_line(line: &[u8]) -> bool
     ensures { Decides result (IsDigestLine line.now) }
 {

@@ -14,17 +14,18 @@ use ps_grid::{Cell, Refusal, Twin};
 use ps_wire::{encode, may_share_line, outgrows_line};
 use std::alloc::Global;
 
-/// If the deltas have at most this many cells, counts and pairs, [`greatest_group`] first tries the join of all deltas
-/// that may share a line. Such a join nearly always fits, and costs little if it doesn't.
+/// If the deltas have at most this many cells, counts (of counters) and pairs (of sets), [`greatest_group`] first tries
+/// the join of all deltas that may share a line. Such a join nearly always fits, and costs little if it doesn't.
 const FEW_PARTS: usize = 512;
 
-/// Returns how many of the first deltas, at most `most`, can be joined on one line, and that line.
+/// Returns the greatest number of deltas, from the first on, whose join fits on one line, and the text of that join.
 ///
-/// The number is the greatest for which the join's text isn't longer than a line may be.
+/// The number is at least 1 and at most `most`. A join fits if its text has at most `DELTA_LINE_LIMIT` bytes (of
+/// `ps_wire`).
 ///
 /// # Errors
 ///
-/// - `TooLong`: no number from 1 to `most` has such a join.
+/// - `TooLong`: no number from 1 to `most` has a join that fits. An empty `deltas` has none.
 /// - `Memory`: out of memory.
 ///
 /// Cost: for one delta, writing its line. For a few small deltas, one join and its line. Otherwise, or if that line is

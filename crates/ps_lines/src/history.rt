@@ -5,7 +5,7 @@ use ps_delta::Delta;
 use ps_grid::{Refusal, Twin};
 use std::alloc::Global;
 
-/// Returns copies of the deltas that follow the first `from` of a history, in order, and no more than `most` of them.
+/// Returns copies of the deltas that follow the first `from` deltas of a history, in order and at most `most`.
 ///
 /// # Errors
 ///

@@ -6,7 +6,7 @@ use crate::line_buffer::{Line, LineBuffer};
 use ps_device::{Failed, PIECE_BYTES, Source};
 use std::alloc::{AllocError, Global};
 
-/// Why no line was read.
+/// Why [`Incoming::read_line`] read no line.
 #[derive(Clone, Copy, PartialEq, Eq)]
 pub enum LineFault {
     /// The source failed.
@@ -80,14 +80,15 @@ impl<S: Source + Drop> Incoming<S> {
         })
     }
 
-    /// Returns the line that was read last, without a carriage return at its end.
+    /// Returns the line that was read last, without a carriage return at its end. After a line that is too long, the
+    /// bytes mean nothing.
     pub fn line(&self) -> &[u8]
         ensures { result.now ≡ without_return self.now.lines.line }
     {
         self.lines.line()
     }
 
-    /// Reads up to and with the next line feed. [`Incoming::line`] then returns the line.
+    /// Reads the next line, which a line feed has to end. [`Incoming::line`] then returns the line, without its feed.
     ///
     /// Cost: linear in the bytes of the line, and the time that the source takes.
     pub fn read_line(&mut self) -> Result<(), LineFault>
@@ -119,7 +120,7 @@ impl<S: Source + Drop> Incoming<S> {
 
     /// Reads up to and with the next line feed, or to the end of the source. [`Incoming::line`] then returns the line.
     ///
-    /// Bytes that remain at the end without a line feed are a line, too. Fails only if the source fails.
+    /// Bytes that remain at the end without a line feed are the last line. Fails only if the source fails.
     ///
     /// Cost: linear in the bytes of the line, and the time that the source takes.
     pub fn next_line(&mut self) -> Result<NextLine, Failed>

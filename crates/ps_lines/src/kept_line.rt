@@ -25,14 +25,15 @@ pub enum KeptLine {
     Push(Delta),
 }
 
-/// Returns what a line of a kept file says: the number of a replica, or the delta of a change; none if it says neither.
+/// Returns what a line of a kept file says: the number of a replica, or the delta of a change. Returns `None` if the
+/// line says neither.
 ///
 /// A replica's line must be spelled exactly as [`crate::put_replica_line`] writes it. A delta may have any spelling
 /// that [`Command::read`] accepts. `decoder` decodes the delta.
 ///
 /// # Errors
 ///
-/// - `Delta`: the line begins with `push `, and the rest is no line of a delta.
+/// - `Delta`: the line begins with `push `, and the rest isn't the text of a delta.
 /// - `Memory`: out of memory; only for a line that begins with `push `.
 ///
 /// Cost: O(n) in the n bytes of the line. A line that begins with `push ` also costs that of [`Decoder::decode`].

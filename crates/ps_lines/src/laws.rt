@@ -11,7 +11,7 @@ pub fn bytes_divide_one_way()
 /// States that a `pull` with deltas left to return is never refused as too long, if each delta of the history fits on
 /// a line. The reply then has at least the next delta.
 ///
-/// That each delta fits on a line holds for an empty history, and a session (`run` of `ps_session`) preserves it.
+/// Each delta fits on a line if the history is empty, and a session (`run` of `ps_session`) preserves that property.
 pub fn pulls_hand_out()
     ensures { PullsHandOut }
 {}

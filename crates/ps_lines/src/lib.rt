@@ -3,9 +3,10 @@
 //!
 //! - A [`LineBuffer`] joins bytes into lines, however the input is cut into pieces. An [`Incoming`] reads the lines of
 //!   a source.
-//! - A [`Command`] is what a line asks for, and a [`Verb`] its first word.
+//! - A [`Command`] is what a line asks for, and a [`Verb`] is the first word of such a line.
 //! - A [`Reply`] is the answer to a line. [`send`] writes it. A [`Watcher`] observes lines and their outcomes.
-//! - A [`KeptLine`] is what a line of a kept file says. [`is_digest_line`] recognizes its checksum lines.
+//! - A [`KeptLine`] is what a line of a kept file says. [`is_digest_line`] recognizes the checksum lines of a kept
+//!   file.
 //! - [`deltas_after`] and [`greatest_group`] find the answer to a `pull` in a list of deltas. A delta is one change of
 //!   a sheet. A history is the list of a sheet's deltas, in order, and its length is the sheet's version.
 //!

@@ -12,23 +12,23 @@ use std::marker::Model;
 /// The greatest number of bytes of a line, without its line feed.
 pub const LINE_LIMIT: usize = 262_208;
 
-/// The line that a piece of the input ended, if it ended one.
+/// Whether bytes of the input ended a line, and whether that line is stored or too long.
 #[derive(Clone, Copy, PartialEq, Eq)]
 pub enum Line {
-    /// No line.
+    /// No line ended.
     None,
-    /// A line; [`LineBuffer::line`] returns it.
+    /// A line of at most [`LINE_LIMIT`] bytes ended; [`LineBuffer::line`] returns that line.
     Full,
-    /// A line of more than [`LINE_LIMIT`] bytes; none of them is stored.
+    /// A line of more than [`LINE_LIMIT`] bytes ended; the buffer doesn't have the whole line.
     TooLong,
 }
 
-/// How many bytes of a piece [`LineBuffer::feed`] took in, and the line that they ended.
+/// The outcome of [`LineBuffer::feed`]: how many bytes of the piece were taken in, and which line these bytes ended.
 #[derive(Clone, Copy, PartialEq, Eq)]
 pub struct Fed {
     /// The number of bytes taken, from the piece's first on.
     pub taken: usize,
-    /// The line that the last of these bytes ended; [`Line::None`] if it ended none.
+    /// The line that the last byte taken ended; [`Line::None`] if that byte ended no line.
     pub line: Line,
 }
 
@@ -101,7 +101,7 @@ fn keep(bytes: &mut Vec<u8>, too_long: bool, part: &[u8]) -> bool
     false
 }
 
-/// Returns the line without a carriage return at its end.
+/// Returns the bytes of a line without the carriage return at their end, if there is one.
 pub fn trimmed(bytes: &[u8]) -> &[u8]
     ensures { result.now ≡ without_return bytes.now }
 {
@@ -128,9 +128,10 @@ impl LineBuffer {
         })
     }
 
-    /// Takes in the piece up to its first line feed, or all of it if it has none, and returns what it took.
+    /// Takes in `piece` up to and with its first line feed. Returns how many bytes these are, and which line they end.
     ///
-    /// Drops the line that ended last. Never allocates.
+    /// `piece` is the part of the input after the bytes taken so far, of any length. Without a line feed it is taken in
+    /// whole, and ends no line. The buffer first drops the line that ended last. Never allocates.
     ///
     /// Cost: O(n) in the n bytes taken.
     pub fn feed(&mut self, piece: &[u8]) -> Fed
@@ -161,8 +162,8 @@ impl LineBuffer {
 
     /// Returns the position of the first line feed, if the piece begins with a whole line.
     ///
-    /// Then `&piece[..position]` is the line, and it needn't be fed. Returns none if the buffer holds bytes of a line
-    /// that hasn't ended, if the piece has no line feed, or if the line is too long.
+    /// Then `&piece[..position]` is the line, and the caller needn't `feed` the line and its line feed. Returns `None`
+    /// if the buffer holds bytes of an unended line, if the piece has no line feed, or if the line is too long.
     ///
     /// Cost: O(n) in the n bytes up to the position.
     pub fn whole_line(&self, piece: &[u8]) -> Option<usize>
@@ -197,7 +198,8 @@ impl LineBuffer {
         }
     }
 
-    /// Returns the line that ended last, without a carriage return at its end.
+    /// Returns the line that ended last, without a carriage return at its end. After [`Line::TooLong`], the bytes mean
+    /// nothing.
     pub fn line(&self) -> &[u8]
         ensures { result.now ≡ without_return self.now.line }
     {

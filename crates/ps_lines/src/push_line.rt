@@ -31,7 +31,8 @@ pub fn put_push_line(alloc: Global, delta: &Delta, text: &mut Vec<u8>) -> Result
     encode(alloc, delta, text)
 }
 
-/// Returns the pieces of a `push` line, with its line feed. `delta` is the text of a delta, as [`encode`] writes it.
+/// Returns the pieces that, joined, are a `push` line with its line feed. `delta` is the text of a delta, as [`encode`]
+/// writes it.
 pub fn push_pieces(delta: &[u8]) -> [&[u8]; 4]
     ensures { flat_map (λ piece. piece.now) result ≡ push_text delta.now }
 {

@@ -7,7 +7,8 @@ use crate::words::rest_after;
 use itoa::Buffer;
 use std::alloc::{AllocError, Global};
 
-/// Appends `replica` and the number of a replica to `text`, without a line feed. Fails when out of memory.
+/// Appends the line `replica N` to `text`, where N is the number of a replica, without a line feed. Fails when out of
+/// memory; `text` may then end with a beginning of the line.
 pub fn put_replica_line(replica: u8, text: &mut Vec<u8>) -> Result<(), AllocError>
     ensures { OnOk result (text.new.items ≡ text.old.items ++ replica_line replica) }
 {

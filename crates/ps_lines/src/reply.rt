@@ -13,39 +13,39 @@ use ps_device::{Failed, Sink, put_all};
 use ps_grid::Refusal;
 use ps_value::{Value, write_shown};
 
-/// The reply to a line. Each variant's comment gives the reply's first word and what follows it. The version is the
-/// number of changes in the sheet's history.
+/// The reply to a line. Each variant's comment gives the reply's first word and what follows that word. The version is
+/// the number of changes in the sheet's history.
 #[derive(Drop)]
 pub enum Reply {
     /// `ok` and the version.
     Done(u64),
-    /// The same text as `Done`, for a pushed delta with changes of the own replica that the sheet lacked. See
-    /// [`Outcome::Elsewhere`].
+    /// The same text as `Done`, for a pushed or merged delta with changes of the sheet's own replica that the sheet
+    /// lacked. See [`Outcome::Elsewhere`].
     DoneElsewhere(u64),
     /// `same` and the version: nothing of a merged delta was new.
     Same(u64),
     /// `val` and what the cell shows.
     Shown(Value),
-    /// `rows`, the number of lines of a table, and then these lines, each with its line feed.
+    /// `rows`, the number of lines of a table of what cells show, and then these lines, each with its line feed.
     Rows(u64, Vec<u8>),
     /// `entry` and the entry of a cell.
     Entry(Vec<u8>),
     /// `entries`, the number of lines of a table of entries, and then these lines, each with its line feed.
     Entries(u64, Vec<u8>),
-    /// `delta`, the version after the delta, and the delta's line.
+    /// `delta`, the version after the returned deltas, and the text of their join.
     Delta(u64, Vec<u8>),
     /// `end` and the version: a `pull` found no more deltas.
     End(u64),
-    /// `replica` and the number of the own replica.
+    /// `replica` and the number of the sheet's own replica.
     Replica(u8),
-    /// `version` and the version, after a session waited for changes.
+    /// `version` and the version: the reply to a `wait`.
     Version(u64),
     /// `err`, the refusal's number and its name.
     Refused(Refusal),
 }
 
 impl Reply {
-    /// Returns the outcome of the line, which a [`crate::Watcher`] sees.
+    /// Returns the outcome of the line that has this reply, to show to a [`crate::Watcher`].
     pub fn outcome(&self) -> Outcome {
         match self {
             Reply::Refused(refusal) => Outcome::Refused(*refusal),
@@ -64,7 +64,7 @@ impl Reply {
     }
 }
 
-/// Writes the pieces one after another. If the sink fails, it has only a beginning of them.
+/// Writes the pieces to `sink`, one after another. If the sink fails, it has only a beginning of their bytes.
 ///
 /// Cost: O(n) in the n bytes of the pieces.
 pub fn send_pieces<K: Sink>(pieces: &[&[u8]], sink: &mut K) -> Result<(), Failed>
@@ -120,7 +120,7 @@ fn send_shown<K: Sink>(value: &Value, sink: &mut K) -> Result<(), Failed>
     }
 }
 
-/// Writes a reply and its line feed. If the sink fails, it has only a beginning of them.
+/// Writes a reply with its line feed to `sink`. If the sink fails, it has only a beginning of these bytes.
 ///
 /// Cost: O(n) in the n bytes of the reply, in a constant number of pieces.
 #[inline(always)]

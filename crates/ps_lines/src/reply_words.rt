@@ -1,4 +1,4 @@
-//! The first word of each reply, with its space, for whoever writes or reads a reply.
+//! The first word of each reply, with the space after the word, for whoever writes or reads a reply.
 //!
 //! Two other sources repeat some of these words: the web page has its own `rows` and `entries`, `ps_hints` its own
 //! `delta `.

@@ -1,4 +1,4 @@
-//! The first words of lines.
+//! Verbs: the first words of the lines that a session answers.
 ghost use Rattle.std.specs.Prelude.{◌≡◌, Contains, Some};
 ghost use Rattle.ps_lines.specs.Commands.{verb_of};
 
@@ -25,12 +25,13 @@ pub(crate) const PUSH: &str = "push";
 
 const MERGE: &str = "merge";
 
-/// The word of [`Verb::Pull`], for clients that write such a line to a peer.
+/// The word of [`Verb::Pull`], for clients that write a `pull` line to a peer.
 pub const PULL: &str = "pull";
 
 pub(crate) const REPLICA: &str = "replica";
 
-/// The word of [`Verb::Wait`], for clients that write such a line, and for sessions that look for one in their input.
+/// The word of [`Verb::Wait`], for clients that write a `wait` line, and for sessions that look for a `wait` line in
+/// their input.
 pub const WAIT: &str = "wait";
 
 /// What a line asks for, by its first word.
@@ -56,13 +57,13 @@ pub enum Verb {
     Entries,
     /// `push`: take in a delta.
     Push,
-    /// `merge`: take in what is new of a delta.
+    /// `merge`: take in only the parts of a delta that are new to the sheet.
     Merge,
     /// `pull`: return deltas.
     Pull,
-    /// `replica`: return the number of the own replica.
+    /// `replica`: return the number of the sheet's own replica.
     Replica,
-    /// `wait`: return the version once there are more changes.
+    /// `wait`: wait for more changes, and return the version.
     Wait,
 }
 
@@ -112,7 +113,7 @@ impl Verb {
         }
     }
 
-    /// Returns the verb that a word names; none for any other word.
+    /// Returns the verb that a word names; `None` for any other word.
     #[inline(always)]
     #[tactic(auto, unfolding(crate::specs::Commands::verb_of))]
     pub fn read(word: &[u8]) -> Option<Verb>

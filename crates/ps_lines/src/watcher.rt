@@ -9,16 +9,17 @@ pub enum Outcome {
     Answered,
     /// The line was refused.
     Refused(Refusal),
-    /// The line was answered, and it pushed changes of the own replica that the sheet lacked. So another sheet uses the
-    /// replica's number, too, or this sheet has lost changes.
+    /// The line was answered, and its delta had changes of the sheet's own replica that the sheet lacked. So another
+    /// sheet uses the same replica number, or this sheet has lost changes.
     Elsewhere,
 }
 
 /// An observer of a session's lines. It can't change what the session does, so its method has no contract.
 pub trait Watcher {
-    /// Observes a line and its outcome. `line` has neither its line feed nor a carriage return before it.
+    /// Observes a line and its outcome. `line` has no line feed, and no carriage return at its end.
     ///
-    /// Empty lines are observed, too. A line that is too long is passed as an empty one, since its bytes aren't stored.
+    /// A session also shows empty lines. In place of a line that is too long, it shows an empty line, since it doesn't
+    /// have all bytes of the long one.
     ///
     /// Cost: the watcher's own.
     fn saw(&mut self, line: &[u8], outcome: Outcome);

@@ -5,7 +5,8 @@ ghost use Rattle.ps_lines.specs.Words.{after_part, after_word, first_part, first
 
 use ps_grid::read_digits;
 
-/// Returns the bytes before the first space, and those after it if there is one.
+/// Returns the bytes before the first space, and the bytes after that space. Without a space, returns the whole text
+/// and `None`.
 ///
 /// Cost: O(n) in the n bytes before the space.
 pub fn split_word(text: &[u8]) -> (&[u8], Option<&[u8]>)
@@ -18,7 +19,8 @@ pub fn split_word(text: &[u8]) -> (&[u8], Option<&[u8]>)
     split_part(text, b' ')
 }
 
-/// Returns the bytes before the first separator, and those after it if there is one.
+/// Returns the bytes before the first `separator`, and the bytes after it. Without a separator, returns the whole text
+/// and `None`.
 ///
 /// Cost: O(n) in the n bytes before the separator.
 pub fn split_part(text: &[u8], separator: u8) -> (&[u8], Option<&[u8]>)
@@ -50,7 +52,8 @@ pub(crate) fn rest_after<'a>(text: &'a [u8], word: &str) -> Option<&'a [u8]>
     text.strip_prefix(word.as_bytes())?.strip_prefix(b" ")
 }
 
-/// Reads a word of decimal digits as a number; none for any other word, or a number of more than 64 bits.
+/// Returns the number that a word of decimal digits stands for. Returns `None` for any other word, and for a number of
+/// more than 64 bits.
 ///
 /// Cost: O(n) in the n bytes of the word.
 pub fn read_whole(word: &[u8]) -> Option<u64>

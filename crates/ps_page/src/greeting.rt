@@ -25,14 +25,14 @@ const DRAIN_SECONDS: u64 = 1;
 /// The most bytes of one read.
 const PIECE_BYTES: usize = 4096;
 
-/// What the connection of a browser is after its request was read.
+/// What a browser's connection is used for after the browser's request.
 #[derive(Clone, Copy, Debug, PartialEq, Eq)]
 pub enum Greeted {
-    /// It is finished: its request was answered, or couldn't be read.
+    /// Nothing more: the request was answered, or couldn't be read or answered.
     Answered,
-    /// It is now the WebSocket of a session: messages are lines and replies.
+    /// The WebSocket of a session, whose messages are lines and replies.
     Live,
-    /// It is now a WebSocket on which the server reports the number of changes.
+    /// A WebSocket on which the server reports the number of changes.
     News,
 }
 
@@ -67,10 +67,11 @@ fn until<'a, C: Clock>(
     Some(Timed { stream, clock, end })
 }
 
-/// Answers the request of a browser; its first bytes, `front`, were read already.
+/// Answers the request of a browser, and returns what the connection is used for next. `front` has the first bytes of
+/// the request, which were read before.
 ///
-/// The browser has ten seconds for the rest of the head, and ten for each write. Unless a WebSocket is opened, the
-/// output is shut down at the end, and the rest of the input is read for at most a second, as [`drain`] does.
+/// The browser has ten seconds to send the rest of the head, and ten to take each write. Unless the call opens a
+/// WebSocket, it ends with [`drain`] for at most a second. If the clock fails, the call only returns `Answered`.
 ///
 /// Cost: linear in the bytes of the head and of the page, and the time that the browser takes.
 pub fn greet<C: Clock>(
@@ -95,8 +96,8 @@ pub fn greet<C: Clock>(
 
 /// Reads the head of a request from `reader`, and writes the response to `writer`.
 ///
-/// Returns `Live` or `News` if it opened a WebSocket, and else `Answered`. The latter includes failed reads and writes,
-/// and out of memory. [`greet`] calls it on a connection, and limits the time.
+/// Returns `Live` or `News` if the call opened a WebSocket. Otherwise it returns `Answered`, also if a read or a write
+/// failed, or when out of memory. [`greet`] calls this function on a connection, and limits the time.
 ///
 /// Cost: linear in the bytes of the head and of the page, and the time that both sides take.
 pub fn answer_request<R: Read, W: Write>(
@@ -144,8 +145,9 @@ fn is_opened<W: Write>(alloc: Global, accept: &[u8; 28], writer: &mut W) -> bool
     write_response(accept, &[], &mut head).is_ok() && writer.write_all(head.as_slice()).is_ok()
 }
 
-/// Shuts down the output, and reads and drops the input: to its end, for at most `time` and in at most 256 reads. If a
-/// connection is closed with unread input, the system resets it, and the peer may lose the response.
+/// Shuts down the output of a connection, and drops its input: to the end, for at most `time`, in at most 256 reads.
+/// Call it before a close: if a connection is closed with unread input, the system resets the connection, and the peer
+/// may lose the response.
 ///
 /// Cost: the reads, and the time that they wait.
 pub fn drain<C: Clock>(clock: &C, stream: &TcpStream, time: Duration) {

@@ -17,16 +17,16 @@ use std::alloc::Global;
 use std::io::{ErrorKind, Read};
 use websocket::handshake::server::check_request;
 
-/// The greatest number of fields in the head of a request.
+/// The greatest number of header fields in the head of a request.
 pub const MOST_FIELDS: usize = 64;
 
-/// Why a request is refused.
+/// The reason for which a request is refused.
 #[derive(Clone, Copy, Debug, PartialEq, Eq)]
 pub enum Refused {
-    /// 400: not just the head of a request of HTTP/1, more than [`MOST_FIELDS`] fields, or no valid upgrade at the path
-    /// of a WebSocket.
+    /// 400: the bytes aren't exactly the head of an HTTP/1 request, the head has more than [`MOST_FIELDS`] fields, or a
+    /// request to the path of a WebSocket isn't a valid upgrade.
     BadRequest,
-    /// 403: the `Host` isn't this machine, or the `Origin` at the path of a WebSocket isn't this server's page.
+    /// 403: the `Host` isn't this machine, or the `Origin` of a request to the path of a WebSocket isn't this server.
     Forbidden,
     /// 404: nothing is at this path.
     NotFound,
@@ -34,13 +34,13 @@ pub enum Refused {
     NotAllowed,
     /// 408: the head didn't come in time.
     TooLate,
-    /// 431: the head is too long.
+    /// 431: the head has more than [`HEAD_LIMIT`] bytes.
     TooLarge,
-    /// 503: as many browsers follow the changes already as may.
+    /// 503: the server has no room for another browser that follows the changes.
     Unavailable,
 }
 
-/// The answer to a request.
+/// The answer to the bytes of a request that came so far.
 #[derive(Clone, Copy, Debug, PartialEq, Eq)]
 pub enum Answer {
     /// The head isn't whole yet.
@@ -57,7 +57,8 @@ pub enum Answer {
     Refuse(Refused),
 }
 
-/// Returns the answer to a request; `buf` has the bytes that came so far. Bytes after its head are refused with 400.
+/// Returns the answer to the bytes `buf` of a request, all that came so far. A request with bytes after its head is
+/// refused with 400.
 ///
 /// Cost: linear in the bytes.
 pub fn answer_to(buf: &[u8]) -> Answer
@@ -233,13 +234,13 @@ fn are_digits(text: &[u8]) -> bool
     text.iter().all(|b| b.is_ascii_digit())
 }
 
-/// The greatest number of bytes of a head.
+/// The greatest number of bytes in the head of a request.
 pub const HEAD_LIMIT: usize = 8192;
 
-/// Reads the head of a request, and returns the answer to it, which isn't `More`.
+/// Reads the head of a request, and returns the answer to the request. The answer is never `More`.
 ///
-/// A reader that times out is answered by `TooLate`, a head of more than [`HEAD_LIMIT`] bytes by `TooLarge`. Returns
-/// none if the reader fails otherwise or ends within the head, or when out of memory.
+/// If the reader times out, the answer is the refusal `TooLate`. If the head has more than [`HEAD_LIMIT`] bytes, it is
+/// `TooLarge`. Returns none if the reader fails for another reason or ends within the head, or when out of memory.
 ///
 /// Cost: a parse of the head for each read.
 pub fn read_head<S: Read>(alloc: Global, reader: &mut S) -> Option<Answer>

@@ -1,11 +1,11 @@
 //! The server's side of browsers: a page, and WebSockets whose messages are the lines and replies of a session.
 //!
-//! This crate knows no sheet.
+//! This crate has no access to a sheet.
 //!
 //! - [`greet`] answers a request of HTTP: it sends the page ([`PAGE`]), the facts about the sheet ([`About`]) or a
 //!   refusal, or opens a WebSocket.
 //! - [`MessageSource`] and [`MessageSink`] are the two sides of a session over a WebSocket.
-//! - [`NewsSocket`] is a second WebSocket of a page. It reports how many changes there are.
+//! - [`NewsSocket`] is a second WebSocket of a page, on which the server reports the number of changes.
 //!
 //! The contracts to use are those of [`answer_to`], [`read_head`] and [`answer_request`]. Once the head of a request is
 //! whole (at most [`HEAD_LIMIT`] bytes), its method, path, `Host` and `Origin` decide the answer. A WebSocket is opened

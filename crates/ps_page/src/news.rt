@@ -16,8 +16,8 @@ use tungstenite::{CloseCode, Error, Message, NoMask, WebSocket};
 /// The most messages of a browser that one call skips. A page sends none.
 const MOST_PASSED: usize = 1024;
 
-/// A WebSocket that reports the number of changes to a browser. It ignores the browser's messages, and no call waits
-/// for the browser.
+/// A WebSocket on which the server reports the number of changes to a browser. The server ignores the browser's
+/// messages, and no call waits for the browser.
 #[derive(Drop)]
 pub struct NewsSocket {
     alloc: Global,
@@ -27,7 +27,8 @@ pub struct NewsSocket {
 }
 
 impl NewsSocket {
-    /// Wraps the connection of a WebSocket that was just opened, and makes it non-blocking.
+    /// Creates a news socket over the connection of a WebSocket that was just opened, and makes the connection
+    /// non-blocking.
     pub fn new(alloc: Global, stream: TcpStream) -> NewsSocket {
         let _ = stream.set_nonblocking(true);
         NewsSocket {
@@ -37,12 +38,12 @@ impl NewsSocket {
         }
     }
 
-    /// Returns the connection.
+    /// Returns the connection of the WebSocket.
     pub fn connection(&self) -> &TcpStream {
         self.socket.get_ref()
     }
 
-    /// Sends the browser `version`, the number of changes, unless it was sent this number or a higher one before.
+    /// Sends the browser the number of changes, `version`, unless an earlier call had the same or a higher number.
     ///
     /// Fails if the message can't be sent at once (the browser doesn't read, or has left), or when out of memory.
     pub fn tell(&mut self, version: u64) -> Result<(), Failed> {
@@ -54,8 +55,8 @@ impl NewsSocket {
         say_version(self.alloc, &mut self.socket, version)
     }
 
-    /// Skips all that the browser has sent, and returns whether it is still connected. Pings are answered. A browser
-    /// that sent 1,024 messages since the last call counts as gone.
+    /// Skips all messages that the browser has sent, and returns whether the browser is still connected. Pings are
+    /// answered. A browser also counts as gone after 1,024 messages since the last call, or one of over 4,096 bytes.
     ///
     /// Cost: linear in the bytes that the browser has sent.
     pub fn is_there(&mut self) -> bool {
@@ -80,7 +81,8 @@ fn version_text(alloc: Global, version: u64) -> Result<Vec<u8>, AllocError>
     Ok(bytes)
 }
 
-/// Sends a browser the number of changes, as one message. Fails if the message can't be sent, or when out of memory.
+/// Sends a browser the number of changes as one message, such as `version 7`. Fails if the message can't be sent, or
+/// when out of memory.
 ///
 /// Cost: the time that the browser takes.
 pub fn say_version<S: Read + Write + Drop>(

@@ -11,7 +11,8 @@ use std::alloc::{AllocError, Global};
 use std::io;
 use std::io::Write;
 
-/// Writes the response with the page: a constant head, which has the length of `PAGE`, and then `page`.
+/// Writes the response with the page: a constant head, and then `page`. The head states the length of `PAGE`, so `page`
+/// has to be of this length. Fails if a write fails.
 ///
 /// Cost: linear in the bytes of the page.
 pub fn respond_page<W: Write>(writer: &mut W, page: &[u8]) -> io::Result<()>
@@ -22,18 +23,18 @@ pub fn respond_page<W: Write>(writer: &mut W, page: &[u8]) -> io::Result<()>
     writer.flush()
 }
 
-/// The head of the response to `/about`, up to the value of `content-length`, which is written after it.
+/// The beginning of the head of the response to `/about`. The value of `content-length` is written after it.
 pub const ABOUT_HEAD: &[u8] = b"HTTP/1.1 200 OK\r\ncontent-type: text/plain; charset=utf-8\r\n\
     cache-control: no-store\r\nx-content-type-options: nosniff\r\nconnection: close\r\ncontent-length: ";
 
-/// Facts about a sheet, which a page asks for at `/about`.
+/// Facts that the answer to a request needs. A page asks for the first two at `/about`.
 #[derive(Clone, Copy, Debug)]
 pub struct About<'a> {
     /// The number of browsers that have a session.
     pub here: u64,
-    /// The title, one line.
+    /// The title of the page, in one line.
     pub title: &'a str,
-    /// Whether one more browser may follow the changes over a WebSocket. The response to `/about` doesn't have it.
+    /// Whether one more browser may follow the changes over a WebSocket. The response to `/about` doesn't say this.
     pub has_room: bool,
 }
 
@@ -55,7 +56,7 @@ impl About<'_> {
     }
 }
 
-/// Writes the response to `/about`, with `lines` as its body.
+/// Writes the response to `/about`, with `lines` as its body. Fails if a write fails.
 ///
 /// Cost: linear in the bytes of the lines.
 pub fn respond_about<W: Write>(writer: &mut W, lines: &[u8]) -> io::Result<()>
@@ -89,7 +90,7 @@ fn refusal_text(refused: Refused) -> &'static [u8] {
     }
 }
 
-/// Writes the response that refuses a request.
+/// Writes the response that refuses a request for this reason. Fails if a write fails.
 pub fn respond<W: Write>(writer: &mut W, refused: Refused) -> io::Result<()> {
     writer.write_all(refusal_text(refused))?;
     writer.flush()

@@ -1,5 +1,5 @@
-//! A WebSocket as the source and the sink of a session. Each message of the browser is a line, and each release of
-//! replies is a message to it.
+//! A WebSocket as the source and the sink of a session. Each message of the browser is a line. The replies that a
+//! session sends at once are one message to the browser.
 ghost use Rattle.std.specs.Prelude.{◌≡◌, ◌+◌, ◌-◌, ◌==◌, ◌&&◌, ◌≤◌, [], None, OnOk, drop, length, min, not, take};
 ghost use Rattle.std.specs.Prelude.{vec_len};
 ghost use Rattle.std.specs.List.{list_all};
@@ -33,9 +33,9 @@ const SILENT_SECONDS: u64 = 300;
 /// How long a browser may leave a reply unread, in seconds.
 const UNREAD_SECONDS: u64 = 10;
 
-/// The connection of a WebSocket. Its browser may be silent for longer once its first bytes were read.
+/// The connection of a browser's WebSocket, with limits for the time that the browser takes.
 ///
-/// Reads and writes fail once their time is over; see [`BrowserStream::new`].
+/// Reads and writes fail once their time is over: see [`BrowserStream::new`].
 #[derive(Drop)]
 pub struct BrowserStream<'a> {
     stream: &'a TcpStream,
@@ -45,10 +45,10 @@ pub struct BrowserStream<'a> {
 }
 
 impl<'a> BrowserStream<'a> {
-    /// Wraps the connection of a WebSocket that was just opened.
+    /// Creates the stream over the connection of a WebSocket that was just opened.
     ///
-    /// The browser may be silent for `idle`, or for five minutes if that is none, and may leave a reply unread for ten
-    /// seconds. Its first message has to begin within ten seconds.
+    /// The browser's first message has to begin within ten seconds. From then on the browser may be silent for `idle`,
+    /// or for five minutes if `idle` is none. The browser may leave a reply unread for ten seconds.
     pub fn new(stream: &'a TcpStream, idle: Option<Duration>) -> BrowserStream<'a> {
         let _ = stream.set_read_timeout(Some(Duration::from_secs(FIRST_SECONDS)));
         let _ = stream.set_write_timeout(Some(Duration::from_secs(UNREAD_SECONDS)));
@@ -116,13 +116,14 @@ pub fn turn_browser_away(alloc: Global, stream: &TcpStream) {
 /// The result of reading a browser's next message.
 #[derive(Clone, Copy, Debug, PartialEq, Eq)]
 pub enum Heard {
-    /// One line.
+    /// A message that is one line.
     Line,
     /// A ping, a pong or a close, which a session ignores.
     Idle,
-    /// A message that isn't one line, or a line that there was no memory for.
+    /// A message that isn't one line, or one line for which there was no memory.
     NoLine,
-    /// Nothing more: the browser left, its connection failed, or it sent a frame that isn't allowed or is too long.
+    /// Nothing more: the browser left, its connection failed, or there was no memory to read the message. The same
+    /// holds if the browser sent a frame that isn't allowed, or a message that is too long.
     Left,
 }
 
@@ -140,8 +141,8 @@ fn is_undivided(line: &[u8]) -> bool
     line.iter().all(|b| *b != b'\n' && *b != b'\r')
 }
 
-/// Reads the next message of a browser. If the message is one line, `bytes` has that line afterwards, with a line feed,
-/// and nothing else.
+/// Reads the next message of a browser, and returns what was read. If the message is one line, `bytes` has exactly this
+/// line and a line feed afterwards. The former bytes are dropped in any case.
 ///
 /// Cost: linear in the bytes of the message, and the time that the browser takes.
 pub fn hear<S: Read + Write + Drop>(socket: &mut WebSocket<S, NoMask>, bytes: &mut Vec<u8>) -> Heard
@@ -189,7 +190,7 @@ pub fn say<S: Read + Write + Drop>(
     }
 }
 
-/// A source of the lines that a browser sends as messages. Contracts don't see its bytes: `remaining` is none.
+/// A source of the lines that a browser sends as messages. Contracts don't see the source's bytes: `remaining` is none.
 #[derive(Drop)]
 pub struct MessageSource<S: Read + Write + Drop, L: Ledger> {
     socket: WebSocket<S, NoMask>,
@@ -205,6 +206,7 @@ pub struct MessageSource<S: Read + Write + Drop, L: Ledger> {
 
 impl<S: Read + Write + Drop, L: Ledger> MessageSource<S, L> {
     /// Creates a source over a stream whose WebSocket is open. A message of more than `limit` bytes ends the source.
+    /// `blank` starts the ghost count of the source's failures.
     pub fn new(alloc: Global, stream: S, limit: usize, blank: Blank) -> MessageSource<S, L>
         requires { IsBlankOf blank L.name L.parts }
         ensures { ⟦<MessageSource<S, L> as Source>⟧.failures result ≡ 0 }
@@ -264,7 +266,8 @@ impl<S: Read + Write + Drop, L: Ledger> Source for MessageSource<S, L> {
     }
 }
 
-/// A sink that sends each piece as one message to a browser. Contracts don't see its bytes: `contents` is none.
+/// A sink that sends the bytes of each `put` as one message to a browser. Contracts don't see the sent bytes:
+/// `contents` is none.
 #[derive(Drop)]
 pub struct MessageSink<S: Read + Write + Drop, L: Ledger> {
     alloc: Global,
@@ -273,7 +276,7 @@ pub struct MessageSink<S: Read + Write + Drop, L: Ledger> {
 }
 
 impl<S: Read + Write + Drop, L: Ledger> MessageSink<S, L> {
-    /// Creates a sink over a stream whose WebSocket is open.
+    /// Creates a sink over a stream whose WebSocket is open. `blank` starts the ghost count of the sink's failures.
     pub fn new(alloc: Global, stream: S, blank: Blank) -> MessageSink<S, L>
         requires { IsBlankOf blank L.name L.parts }
         ensures { ⟦<MessageSink<S, L> as Sink>⟧.failures result ≡ 0 }

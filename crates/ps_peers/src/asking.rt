@@ -25,13 +25,13 @@ use ps_lines::{
 };
 use std::alloc::{AllocError, Global};
 
-/// The reply of a server without a free session slot. It then closes the connection.
+/// The reply of a server without a free session slot. The server then closes the connection.
 const NO_SEAT: &str = "err 21 seat";
 
-/// Returns the number that follows `word` in a line. Returns `None` if the line doesn't begin with `word`, or if its
-/// rest isn't a number. `word` includes the space before the number.
+/// Returns the number that follows `word` in the line `first`. Returns `None` if `first` doesn't begin with `word`, or
+/// if the rest isn't a decimal number of at most 64 bits. `word` includes the space before the number.
 ///
-/// Cost: linear in the line's bytes.
+/// Cost: linear in the bytes of `first`.
 pub fn number_after(first: &[u8], word: &[u8]) -> Option<u64>
     ensures { result ≡ number_after first.now word.now }
 {
@@ -46,14 +46,14 @@ pub fn number_after(first: &[u8], word: &[u8]) -> Option<u64>
     }
 }
 
-/// Returns 0, the number of further lines of the reply, if `due` holds. Else returns `None`.
+/// Returns 0, the number of further lines of the reply, if `due` holds; otherwise `None`.
 fn none_more(due: bool) -> Option<u64>
     ensures { result ≡ none_more due }
 {
     if due { Some(0) } else { None }
 }
 
-/// Returns 0, the number of further lines of the reply, if `first` is `word` and a number. Else returns `None`.
+/// Returns 0, the number of further lines of the reply, if `first` is `word` and a number; otherwise `None`.
 fn numbered(first: &[u8], word: &[u8]) -> Option<u64>
     ensures { result ≡ option_map (λ n. 0) (number_after first.now word.now) }
 {
@@ -299,8 +299,9 @@ fn answer<S: Source + Drop, K: Sink + Drop, O: Sink, W: Watcher>(
     }
 }
 
-/// Sends a peer each line of `input`, to its end, and writes the replies to `out`. Each reply is written whole and
-/// flushed before the next line is sent. A last line needs no line feed.
+/// Sends a peer each line of `input`, to the input's end, and writes the replies to `out`. Each reply is written whole
+/// and flushed before the next line is sent. The last line needs no line feed. The watcher sees each line and its
+/// outcome.
 ///
 /// An empty line isn't sent. A line that is too long is refused here, with the reply that a session would give.
 ///
@@ -310,7 +311,7 @@ fn answer<S: Source + Drop, K: Sink + Drop, O: Sink, W: Watcher>(
 /// # Errors
 ///
 /// - `Device`: the input, the connection or `out` failed.
-/// - `Line`: a reply doesn't fit its line, or it broke off.
+/// - `Line`: a reply doesn't fit its line, the connection ended within a reply, or an earlier call on the peer failed.
 /// - `Memory`: allocation failed.
 /// - `PeerRefused`: the peer has no free session slot.
 /// - `Closed`: the peer closed the connection instead of replying to a line.

@@ -1,4 +1,4 @@
-//! Writes all changes that a peer has, and then each one that it gets.
+//! Writes all changes that a peer has, and then each change that the peer gets.
 ghost use Rattle.std.specs.Prelude.{◌≡◌, ◌⊎◌, ◌<◌, [], Err, IfErr, OnErr, OnOk, false, true};
 ghost use Rattle.std.specs.Io.KnownBytes.{Appends};
 ghost use Rattle.ps_grid.specs.declared.refusal.Refusal.TheVariants as Refusal;
@@ -27,21 +27,22 @@ fn write_push<O: Sink>(delta: &[u8], out: &mut O) -> Result<(), Failed>
     send_whole(line.as_slice(), out)
 }
 
-/// Writes all changes of a peer after its first `after` ones, and then each change that the peer gets. It pulls them in
-/// groups, and writes each group as a change line (`push` and the deltas).
+/// Writes all changes of a peer after its first `after` changes, and then each change that the peer gets. The changes
+/// are pulled in groups, and each group is written to `out` as one change line: `push` and the join of its deltas.
 ///
-/// It flushes each line before the next pull. When the peer has no more changes, it sends a `wait`, which the peer
-/// answers once it has more.
+/// Each line is flushed before the next pull. When the peer has no more changes, `follow` sends it a `wait`, which the
+/// peer answers once it has more changes, or after some time.
 ///
-/// With `until_now` it returns at the peer's first `end`. Without, it returns when the peer closes the connection
-/// between two replies. What was written before a fault stays written.
+/// With `until_now`, `follow` returns when the peer first replies `end`. Without `until_now`, it returns when the peer
+/// closes the connection between two replies. Lines written before a fault stay written.
 ///
 /// # Errors
 ///
 /// - `Device`: the connection or `out` failed.
-/// - `Line`: a reply doesn't fit its request, or it broke off. With `until_now` also: the peer closed before its `end`.
+/// - `Line`: a reply doesn't fit its request, the connection ended within a reply, or an earlier call on the peer
+///   failed. With `until_now` also: the peer closed the connection before an `end`.
 /// - `Memory`: allocation failed.
-/// - `PeerRefused`: the peer replied `err`, as it does if it has fewer than `after` changes.
+/// - `PeerRefused`: the peer replied `err`. A peer with fewer than `after` changes does so.
 ///
 /// Cost: linear in the bytes of the lines, besides the wait for the peer.
 pub fn follow<S: Source + Drop, K: Sink + Drop, O: Sink>(

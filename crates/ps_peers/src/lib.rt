@@ -1,16 +1,16 @@
-//! A client of the line protocol.
+//! A client of the line protocol. A peer is the session at the other end of a connection.
 //!
 //! A request to a [`Peer`] is one line. A reply is one line or several.
 //!
-//! - [`sync`] pulls all that one peer has and pushes it to another.
-//! - [`follow`] writes all changes that a peer has, and then each one that it gets.
-//! - [`ask_lines`] sends a peer the lines of an input.
+//! - [`sync`] pulls all changes of one peer and pushes them to another.
+//! - [`follow`] writes all changes that a peer has, and then each change that the peer gets.
+//! - [`ask_lines`] sends a peer the lines of an input, and writes the replies.
 //!
 //! This crate knows no sheet, and opens no connection: a peer is a source of bytes and a sink. It doesn't decode
 //! deltas. It only finds where in a reply a delta's line begins.
 //!
-//! The contracts to use are those of [`sync`] and [`follow`]. Both write the groups of deltas that the peer returned,
-//! in order and each once, and each group answers the pull before it. They do so up to the peer's `end` (`IsAll`, in
+//! The contracts to use are those of [`sync`] and [`follow`]. Both pull groups of deltas, and write each group once, in
+//! order: [`sync`] to the other peer, [`follow`] to a sink. They go on up to the `end` of the pulled peer (`IsAll`, in
 //! `specs/Exchange.antt`), or up to a fault (`IsHalted`).
 //!
 //! For example, the reply to `pull 0 16` is `delta 2 [["A1",[1,1,"5"],[],[]]]`. [`sync`] sends it as

@@ -15,15 +15,15 @@ use std::marker::Model;
 pub enum PeerFault {
     /// The request couldn't be sent, or the source of the replies failed.
     Device,
-    /// The peer closed the connection after a whole reply, so that no further one came.
+    /// The peer closed the connection after a whole reply, instead of sending the next reply.
     Closed,
-    /// The replies ended in the middle of one, a line of a reply is too long, or an earlier call failed.
+    /// The connection ended within a reply, a line of a reply is too long, or an earlier call failed.
     Line,
 }
 
 /// A connection to a peer: the sink for requests, and the source of replies.
 ///
-/// After the first failed call every other one fails as [`PeerFault::Line`], and sends nothing.
+/// After a call that failed, each later call fails as [`PeerFault::Line`], and sends nothing.
 #[derive(Drop)]
 pub struct Peer<S: Source + Drop, K: Sink + Drop> {
     incoming: Incoming<S>,
@@ -65,9 +65,10 @@ pub(crate) fn send_whole<K: Sink>(line: &[&[u8]], sink: &mut K) -> Result<(), Fa
 }
 
 impl<S: Source + Drop, K: Sink + Drop> Peer<S, K> {
-    /// Creates a peer that was sent no request yet. Fails only when out of memory.
+    /// Creates a peer from the source of its replies and the sink for requests. Sends nothing. Fails only when out of
+    /// memory.
     ///
-    /// Cost: the memory of one line and one piece of input.
+    /// Cost: the memory of one line, and of the bytes that are read at once.
     pub fn new(alloc: Global, source: S, sink: K) -> Result<Peer<S, K>, AllocError>
         ensures to_come { IfOk result (λ peer. peer.to_come ≡ S.remaining source) }
         ensures asked { IfOk result (λ peer. peer.asked ≡ K.contents sink) }
@@ -82,7 +83,7 @@ impl<S: Source + Drop, K: Sink + Drop> Peer<S, K> {
 
     /// Sends a request, and waits for the first line of the reply. [`Peer::reply`] then returns that line.
     ///
-    /// The pieces, joined, are the request with its line feed. An empty request only waits: the reply is then the one
+    /// The pieces of `request`, joined, are a line with its line feed. Without pieces, `ask` only waits for the reply
     /// to an earlier [`Peer::put`].
     ///
     /// Cost: linear in the bytes of the request and of the line, besides the wait for the peer.
@@ -113,10 +114,10 @@ impl<S: Source + Drop, K: Sink + Drop> Peer<S, K> {
         }
     }
 
-    /// Sends a request, and doesn't wait for its reply. A later [`Peer::ask`] reads it, with a request that has no
-    /// reply of its own: nothing, or an empty line.
+    /// Sends a request, and doesn't wait for its reply. A later [`Peer::ask`] reads that reply. That `ask` must send
+    /// nothing that has a reply of its own: no pieces, or an empty line.
     ///
-    /// Cost: linear in the bytes.
+    /// Cost: linear in the bytes of the request.
     pub fn put(&mut self, request: &[&[u8]]) -> Result<(), PeerFault>
         ensures put { OnOk result (IsPut (flat_map (λ piece. piece.now) request.now) self.old self.new) }
         ensures some { PutsSome self.old.asked self.new.asked (flat_map (λ piece. piece.now) request.now) }
@@ -159,7 +160,7 @@ impl<S: Source + Drop, K: Sink + Drop> Peer<S, K> {
         }
     }
 
-    /// Returns the line that was read last, without its line feed and a carriage return before that.
+    /// Returns the line of a reply that was read last, without its line feed, and without a carriage return at its end.
     pub fn reply(&self) -> &[u8]
         ensures { result.now ≡ without_return self.now.line }
     {

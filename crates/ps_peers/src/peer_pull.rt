@@ -18,10 +18,10 @@ use std::alloc::{AllocError, Global};
 /// Why an exchange with a peer ended early.
 #[derive(Debug, Drop)]
 pub enum SyncFault {
-    /// `Device`: a device or connection failed. `Line`: a peer's reply doesn't fit its request, or broke off. `Memory`:
-    /// allocation failed.
+    /// `Device`: a device or connection failed. `Line`: a peer's reply doesn't fit its request, the connection ended
+    /// within a reply, or an earlier call on the peer failed. `Memory`: allocation failed.
     Refused(Refusal),
-    /// A peer refused a request, with this reply.
+    /// A peer refused a request. The field is the peer's whole `err` reply.
     PeerRefused(String),
     /// A peer closed its connection instead of replying.
     Closed,
@@ -30,7 +30,8 @@ pub enum SyncFault {
 /// The outcome of a pull.
 #[derive(Clone, Copy)]
 pub enum Due {
-    /// Deltas, joined to one line: the version that they lead up to, and the byte of the reply where the line begins.
+    /// Deltas, joined on one line. The first field is the version after these deltas. The second field is the index of
+    /// the byte in the reply at which the text of the join begins; this text goes on to the end of the reply.
     Group(u64, usize),
     /// The peer has no more deltas.
     End,
@@ -38,7 +39,7 @@ pub enum Due {
     Closed,
 }
 
-/// Returns the fault that ends an exchange when a request had no reply.
+/// Returns the [`SyncFault`] that stands for `fault`, the reason why a request had no reply.
 pub fn fault_of(fault: PeerFault) -> SyncFault
     ensures device { result ≡ Refused Refusal.Device → fault ≡ PeerFault.Device }
     ensures own { (line : List ℕ) → IsOwn result line }
@@ -50,8 +51,8 @@ pub fn fault_of(fault: PeerFault) -> SyncFault
     }
 }
 
-/// Returns the fault for a request that a peer refused: `PeerRefused` with a copy of the reply. Out of memory it is
-/// `Refused` instead, as `Memory`.
+/// Returns the fault for a request that a peer refused: `PeerRefused` with a copy of the reply. Returns `Refused` as
+/// `Memory` instead when out of memory.
 ///
 /// Cost: linear in the reply's bytes.
 pub fn refused(alloc: Global, reply: &str) -> SyncFault
@@ -89,7 +90,10 @@ fn ask_after<S: Source + Drop, K: Sink + Drop>(
     from.ask(request.as_slice())
 }
 
-/// Asks a peer to reply once it has more than `version` changes (`wait`), and doesn't wait for that reply.
+/// Sends a peer a `wait`, which the peer answers once it has more than `version` changes, or after some time. Doesn't
+/// wait for that reply.
+///
+/// Fails as [`Peer::put`] does: `Device` if the connection failed, `Line` if an earlier call on the peer failed.
 pub fn put_wait<S: Source + Drop, K: Sink + Drop>(
     from: &mut Peer<S, K>,
     version: u64,
@@ -155,14 +159,15 @@ fn due_reply(alloc: Global, reply: &[u8], version: u64) -> Result<Due, SyncFault
     }
 }
 
-/// Pulls at most `most` deltas after a version from a peer, and returns what the reply holds.
+/// Pulls at most `most` deltas after the first `version` changes of a peer, and returns what the reply holds.
 ///
-/// The version that the deltas lead up to has to be greater than `version`, and that of an `end` equal to it.
+/// A reply with deltas has to name a version greater than `version`, the version after these deltas. An `end` has to
+/// name `version` itself. Any other reply doesn't fit.
 ///
 /// # Errors
 ///
 /// - `Device`: the connection failed.
-/// - `Line`: the reply doesn't fit the request, or it broke off.
+/// - `Line`: the reply doesn't fit, the connection ended within it, or an earlier call on the peer failed.
 /// - `Memory`: allocation failed.
 /// - `PeerRefused`: the peer replied `err`.
 ///
@@ -186,14 +191,15 @@ pub fn next_due<S: Source + Drop, K: Sink + Drop>(
     }
 }
 
-/// Checks the reply to a wait for more than `version` changes. The reply has to be the word `version` and a number, at
-/// least `version`, since a wait may end without a change.
+/// Checks that `reply` answers a `wait` for more than `version` changes: the word `version`, and a number.
+///
+/// The number has to be at least `version`. It may equal `version`, since a wait may end without a change.
 ///
 /// # Errors
 ///
-/// - `Line`: the reply is anything else.
+/// - `Line`: the reply is neither such an answer nor an `err`.
 /// - `PeerRefused`: the peer replied `err`.
-/// - `Memory`: out of memory for the text of that `err`.
+/// - `Memory`: out of memory for a copy of the `err`.
 pub fn due_news(alloc: Global, reply: &[u8], version: u64) -> Result<(), SyncFault>
     ensures due { OnOk result (TellsNews version reply.now) }
     ensures device { IfErr result (λ fault. fault ≢ Refused Refusal.Device) }
@@ -207,13 +213,14 @@ pub fn due_news(alloc: Global, reply: &[u8], version: u64) -> Result<(), SyncFau
     }
 }
 
-/// Waits until a peer has more than `version` changes, or until the peer ends the wait. Returns false if it closed
-/// instead.
+/// Returns true once a peer has more than `version` changes, or has ended the wait without more changes. Returns false
+/// if the peer closed the connection instead of replying.
 ///
 /// # Errors
 ///
 /// - `Device`: the connection failed.
-/// - `Line`: the reply isn't a number of at least `version` changes, or it broke off.
+/// - `Line`: the reply isn't `version` with a number of at least `version`, the connection ended within the reply, or
+///   an earlier call on the peer failed.
 /// - `Memory`: allocation failed.
 /// - `PeerRefused`: the peer replied `err`.
 ///

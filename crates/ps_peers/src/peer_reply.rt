@@ -7,22 +7,22 @@ use ps_lines::{read_whole, split_word};
 
 /// What a peer replied to a `pull`, a `push` or a `wait`.
 ///
-/// A peer's version is the number of changes in its history; a delta reply says which version it leads up to.
+/// A peer's version is the number of changes in its history. A `delta` reply names the version after its deltas.
 #[derive(Clone, Copy)]
 pub enum PeerReply<'a> {
     /// `ok`: the peer has taken in the pushed changes.
     Taken,
-    /// `delta`: the version that the deltas lead up to, and their line.
+    /// `delta`: the version after the returned deltas, and the text of their join.
     Delta(u64, &'a [u8]),
-    /// `end`: there are no more deltas; the peer's version.
+    /// `end`, with the peer's version: the peer has no more deltas.
     End(u64),
     /// `version`: the reply to a `wait`, with the peer's version.
     Version(u64),
-    /// `err`, with the whole reply.
+    /// `err`: a refusal. The field is the whole line of the reply.
     Refused(&'a str),
 }
 
-/// Reads a reply. Returns `None` if the line is no reply to a `pull`, a `push` or a `wait`.
+/// Returns what the line of a reply says. Returns `None` if the line is no reply to a `pull`, a `push` or a `wait`.
 pub fn read_reply(line: &[u8]) -> Option<PeerReply<'_>>
     ensures { IfSome result (IsTold line.now) }
 {

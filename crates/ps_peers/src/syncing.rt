@@ -1,4 +1,4 @@
-//! Pulls all that one peer has, and pushes it to another.
+//! Pulls all changes of one peer, and pushes them to another.
 ghost use Rattle.std.specs.Prelude.{◌≡◌, ◌⊎◌, ◌<◌, ⊤, Err, OnErr, OnOk};
 ghost use Rattle.ps_grid.specs.declared.refusal.Refusal.TheVariants as Refusal;
 ghost use Rattle.ps_peers.specs.Exchange.{IsAll, IsHalted};
@@ -38,15 +38,18 @@ fn push<S: Source + Drop, K: Sink + Drop>(
     }
 }
 
-/// Pulls all that one peer has, from version 0 on, pushes each line to another, and returns how many lines it pushed.
+/// Pulls all changes of `from`, pushes them to `to`, and returns how many lines it pushed. A line is a group of deltas,
+/// joined as one pull returned them.
 ///
-/// The version in a `delta` reply has to be greater than that of its pull, and the version of an `end` equal to it. So
-/// the exchange ends, whatever the peers reply. What was pushed before a fault stays pushed.
+/// The version in a `delta` reply has to be greater than the version in its pull, and the version of an `end` has to
+/// equal the version in its pull. So the exchange ends, whatever the peers reply. Lines pushed before a fault stay
+/// pushed.
 ///
 /// # Errors
 ///
 /// - `Device`: a connection failed.
-/// - `Line`: a reply doesn't fit its request or broke off, or `from` closed before its `end`.
+/// - `Line`: a reply doesn't fit its request, a connection ended within a reply, `from` closed its connection before
+///   its `end`, or an earlier call on a peer failed.
 /// - `Memory`: allocation failed.
 /// - `PeerRefused`: a peer replied `err`.
 /// - `Closed`: `to` closed the connection instead of replying.

@@ -20,18 +20,19 @@ use std::sync::ledger::Ledger;
 use std::thread::Threads;
 use std::time::Clock;
 
-/// The outcome of a session at a desk.
+/// The outcome of a session at a desk. `K` is the type of the token for what the sent replies report.
 #[derive(Drop)]
 pub struct Attended<L: DeskName, K> {
     /// The session's pass, as its lines left it.
     pub pass: Pass<L>,
-    /// The token that all sessions see what the sent replies report. With a keeper, these changes are durable, too.
+    /// The token which proves that all sessions see the changes that the sent replies report. A token of
+    /// [`attend_kept`] also proves that these changes are durable.
     pub covered: K,
     /// The number of lines that had a reply, or why the session ended before the end of its input.
     pub ended: Result<u64, RunFault>,
 }
 
-/// A desk, with the pass and the peer of a session that begins at it.
+/// A desk, with the pass and the peer of a session that begins at this desk.
 #[derive(Drop)]
 pub struct DeskSession<'a, L: DeskName, W: Wait + Drop> {
     /// The desk.
@@ -42,14 +43,15 @@ pub struct DeskSession<'a, L: DeskName, W: Wait + Drop> {
     pub presence: Presence<'a>,
 }
 
-/// Answers each line of a source on an output at a slot of a desk, to the end of the input.
+/// Runs a session at a desk: answers each line of `source` on `sink`, to the end of the input or the first fault.
+/// Returns the session's outcome.
 ///
-/// Before a reply is sent, all sessions can see each change that this session has seen, of any session.
+/// Before a reply is sent, all sessions can see each change that this session has seen, whichever session made it.
 ///
-/// At any end, also after a fault, `IsCovered` holds. There is a state of the session's `Seat`, between two of its
-/// lines, whose list of patches is a beginning of the list that all sessions see. What was sent are the replies to the
-/// lines up to that state. If contracts see the bytes of source and sink, what was read and written is the transcript
-/// of a session at the desk.
+/// However the session ends, `IsCovered` holds: there is a state of the session's `Seat`, between two lines, whose
+/// list of patches is a beginning of the list that all sessions see. The sent replies are those to the lines before
+/// this state. If contracts see the bytes of `source` and `sink`, the bytes read and written are the transcript of a
+/// session at the desk.
 ///
 /// Cost: that of [`converse`].
 pub fn attend_lines<
@@ -131,7 +133,7 @@ pub fn attend_lines<
     }
 }
 
-/// A session that begins at a desk, with the keeper that makes the desk's changes durable.
+/// The desk, pass and peer of a session that begins, with the keeper that makes the desk's changes durable.
 #[derive(Drop)]
 pub struct KeptSession<'a, L: DeskName, W: Wait + Drop, D: Device + Drop> {
     /// The desk, and the session's pass and peer.
@@ -140,17 +142,16 @@ pub struct KeptSession<'a, L: DeskName, W: Wait + Drop, D: Device + Drop> {
     pub keeper: &'a DeskKeeper<L, D>,
 }
 
-/// Answers each line of a source on an output at a slot of a desk with a keeper, to the end of the input. `watcher`
-/// observes each line.
+/// Runs a session at a desk with a keeper: answers each line of `source` on `sink`, to the end of the input or the
+/// first fault. Returns the session's outcome. `watcher` sees each line and its outcome.
 ///
-/// Before a reply is sent, each change that the session has seen, of any session, is durable, and all sessions can see
-/// it.
+/// Before a reply is sent, each change that this session has seen is durable, and all sessions can see the change,
+/// whichever session made it.
 ///
-/// At any end, also after a fault, `IsCovered` holds. There is a state of the session's `Seat`, between two of its
-/// lines, whose list of patches is a beginning of the durable one. What was sent are the replies to the lines up to
-/// that state.
+/// However the session ends, `IsCovered` holds: there is a state of the session's `Seat`, between two lines, whose
+/// list of patches is a beginning of the durable list. The sent replies are those to the lines before this state.
 ///
-/// Cost: that of [`converse`]. It may wait while another session syncs.
+/// Cost: that of [`converse`]. The call may wait while another session syncs.
 pub fn attend_kept<
     L: DeskName,
     W: Wait + Drop,

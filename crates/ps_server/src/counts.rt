@@ -3,8 +3,8 @@ ghost use Rattle.std.specs.Prelude.{◌≡◌};
 
 use std::sync::ledger::Blank;
 
-/// The blanks (new ledgers, which contracts alone see) that count the failures of a session's devices, and its
-/// evaluations.
+/// Blanks (new ghost counts, which only contracts see) for the failures of a session's input and output, and for the
+/// session's evaluations.
 #[derive(Drop)]
 pub struct Counts {
     /// The blank for failures of the input.
@@ -18,7 +18,7 @@ pub struct Counts {
 }
 
 impl Counts {
-    /// Creates blanks that have counted nothing yet, each for one part. Takes no memory.
+    /// Creates four blanks, each for a count of 0 that has a single owner. The call takes no memory.
     pub fn new() -> Counts
         ensures input { result.input.parts ≡ 1 }
         ensures output { result.output.parts ≡ 1 }

@@ -1,4 +1,4 @@
-//! Tells sessions from requests of HTTP. Any page in a browser can send such a request to a server's port.
+//! Tells sessions from HTTP requests. Any page in a browser can send an HTTP request to a server's port.
 ghost use Rattle.std.specs.Prelude.{◌≡◌, ◌≢◌, ◌≤◌, ◌⊎◌, ◌++◌, ◌∷◌, ℕ, List, [], Err, OnOk, Option, Some, false, length};
 ghost use Rattle.std.specs.Prelude.{true};
 ghost use Rattle.std.specs.Io.KnownBytes.{Consumes, Keeps};
@@ -13,18 +13,20 @@ use ps_lines::{split_part, split_word};
 use std::io::{Chain, ErrorKind, Read};
 use std::sync::ledger::{Blank, Ledger};
 
-/// The bytes after which a first line without an end counts as a request, unless it begins with a small letter.
+/// The number of bytes after which a connection's first line counts as a request if its end hasn't come. A line that
+/// begins with a small letter, a to z, never counts as a request.
 pub const FRONT_LIMIT: usize = 8_192;
 
 /// The most bytes of one read.
 const AT_ONCE: usize = 4_096;
 
-/// Why a connection is no session.
+/// The reason for which [`admit`] doesn't take a connection as a session of lines.
 #[derive(Clone, Copy, PartialEq, Eq)]
 pub enum Unadmitted {
-    /// It begins with the first line of a request of HTTP, or with [`FRONT_LIMIT`] bytes without a line feed.
+    /// The first line is that of an HTTP request, or has no end within [`FRONT_LIMIT`] bytes and doesn't begin with a
+    /// small letter.
     Request,
-    /// It couldn't be read, or there was no memory for its first line.
+    /// The connection couldn't be read, or there was no memory for its first line.
     Failed,
 }
 
@@ -75,14 +77,16 @@ fn judge(front: &[u8]) -> Option<bool>
     None
 }
 
-/// Reads the beginning of a connection into `front`, until it is known to be a session of lines.
+/// Reads the beginning of a connection into `front`, and succeeds once the connection is known to be a session.
 ///
-/// A first line that begins with a small letter is a session's; its end isn't waited for. Any other first line is read
-/// to its end, to the end of the input, or to about [`FRONT_LIMIT`] bytes.
+/// If the first line begins with a small letter, the connection is a session, and `admit` doesn't wait for the end of
+/// this line. It reads any other first line to the end of the line or of the input, or to about [`FRONT_LIMIT`] bytes.
+/// `front` then has all bytes that were read, also after the error `Request`.
 ///
 /// # Errors
 ///
-/// - `Request`: the first line is a request's, or has no end within [`FRONT_LIMIT`] bytes. `front` has what was read.
+/// - `Request`: the first line is that of an HTTP request, or has no end within [`FRONT_LIMIT`] bytes and doesn't begin
+///   with a small letter.
 /// - `Failed`: the reader fails, or there is no memory for the first line.
 ///
 /// Cost: linear in the bytes of the first line, and the time that the reader takes.
@@ -115,7 +119,8 @@ pub fn admit<R: Read>(reader: &mut R, front: &mut Vec<u8>) -> Result<(), Unadmit
     Err(Unadmitted::Failed)
 }
 
-/// Returns the source of a session's lines: the bytes of `front`, which were read already, and then those of `reader`.
+/// Returns the source of a session's lines: first the bytes of `front`, which were read before, and then the bytes of
+/// `reader`. `blank` starts the ghost count of the source's failures.
 pub fn resume<'a, R: Read + Drop, L: Ledger>(
     front: &'a [u8],
     reader: R,

@@ -3,16 +3,18 @@
 //! - [`serve_on`] accepts connections, and closes the sheet once as many sessions as were asked for have ended.
 //!   [`serve_kept_on`] does the same, and makes each change durable in a journal.
 //! - [`attend_lines`] and [`attend_kept`] run one session, over any source and sink.
-//! - [`admit`] tells requests of HTTP from lines, so that no session carries out anything of a request.
+//! - [`admit`] tells HTTP requests from lines, so that no session carries out any part of a request.
 //!
-//! Words of `ps_desk`: a desk is a sheet that sessions share under a lock. A session slot has a pass to the desk, with
-//! what the slot's sessions have seen and appended. A slot's next session gets the same pass.
+//! Words of `ps_desk`: a desk is a sheet that sessions share under a lock. A session slot has a pass to the desk. The
+//! pass records what the slot's sessions have seen and appended. A slot's next session gets the same pass.
 //!
-//! The first bytes of a connection decide what it is. A request of HTTP is answered by the page, a refusal or a
-//! WebSocket, as `ps_page` says. Anything else is a session of lines. Both kinds of session wait for a free slot and
-//! run in a thread of their own. A WebSocket for the news, the number of changes, takes neither a slot nor a thread.
-//! One thread of the server sleeps until there are changes. Another one sleeps until a browser sends something on such
-//! a WebSocket, or a client sends something while its session waits for changes.
+//! The first bytes of a connection decide what the connection is. The server answers an HTTP request with the page, the
+//! facts about the sheet, a refusal or a WebSocket, as `ps_page` says. Any other connection is a session of lines. A
+//! session over a WebSocket or of lines waits for a free slot, and runs in a thread of its own.
+//!
+//! A WebSocket for the news (the number of changes) takes neither a slot nor a thread. One thread of the server sleeps
+//! until there are changes. Another thread sleeps until a browser sends something on a WebSocket for the news, or a
+//! client sends something while the client's session waits for changes.
 //!
 //! This crate is not the program: it knows no command line and no exit status, opens no port and no file, and writes
 //! only replies and refusals on connections. `ps_session` decides what a line means.
@@ -21,12 +23,12 @@
 //!
 //! - [`serve_on`] returns the sheet that it was given, with the changes that its slots' passes appended through all
 //!   their sessions (`IsServed`).
-//! - At the end of [`serve_kept_on`] the journal has all of the sheet.
+//! - If [`serve_kept_on`] succeeds, the journal has all of the sheet's history.
 //! - What a session reads and writes in [`attend_lines`] is the transcript of a `Seat`, a session at the desk.
 //! - [`attend_kept`] sends only what is durable, however the session ends (`IsCovered`, of `ps_session`).
 //!
-//! For example, two sessions of one server answer `set A1 5` with `ok 1` and `set A2 6` with `ok 2`. The sheet that is
-//! returned has these two changes, in this order, and nothing else.
+//! For example, two sessions of one server answer `set A1 5` with `ok 1` and `set A2 6` with `ok 2`. The server returns
+//! the sheet with these two changes after those that it had before, in this order, and no others.
 //!
 //! Cost: that of the sessions.
 #![tactic(auto)]

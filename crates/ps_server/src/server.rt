@@ -27,41 +27,43 @@ use std::sync::Wait;
 use std::thread::Threads;
 use std::time::Clock;
 
-/// What a server returns once it has ended. `J` is the type of its journal, and `()` for a server without one.
+/// The result of a server that has ended. `J` is the type of the server's journal, or `()` if the server had none.
 #[derive(Drop)]
 pub struct Closed<J = ()> {
     /// The sheet, as its sessions left it.
     pub sheet: Sheet,
-    /// The number of sessions that shared it.
+    /// The number of sessions that shared the sheet.
     pub sessions: u64,
-    /// The journal, if there was one; all of the sheet is durable in it.
+    /// The journal, in which all of the sheet's history is durable; `()` if the server had no journal.
     pub journal: J,
 }
 
-/// Serves sessions on a sheet, each over a connection to this listener, and returns the closed sheet.
+/// Serves sessions on a sheet, each over a connection to the listener of `options`, and returns the closed sheet.
 ///
-/// It returns once as many sessions as were asked for have ended. If no number was asked for, it serves until the
-/// program is stopped.
+/// The call returns once as many sessions as `options` asks for have ended. If `options` has no number of sessions, the
+/// call serves until the program is stopped.
 ///
-/// - A session that ends leaves its slot to the next, which begins with all that was seen in the slot before.
-/// - A connection that finds no free slot waits for one. After the time to wait, or if 512 others already wait, it gets
-///   `err 21 seat` and is closed.
-/// - A session whose connection fails ends alone. So does one whose peer sends nothing for the idle time. Without an
-///   idle time, a peer has half a minute for its first whole line, and a browser may be silent for five minutes.
-/// - A page may also follow the changes, without a slot: it gets the number of changes, after each change.
-/// - Once as many sessions as were asked for have begun, requests are still answered until the last session has ended.
-/// - If no number was asked for, and the system has no file or no memory for a connection, the server warns and tries
-///   again.
+/// - A session that ends leaves its slot to a later session, which begins with all that the slot's sessions have seen.
+/// - A connection that finds no free slot waits for one. If it waits for longer than `options` allows, or if 512 others
+///   already wait, the server closes it. A client of lines gets `err 21 seat` first, a browser the close code 1013.
+/// - If a session's connection fails, or its peer is silent for longer than `idle` of `options` allows, only this
+///   session ends.
+/// - A page may follow the changes without a slot: the server sends the page the number of changes whenever it grows.
+/// - Once as many sessions as `options` asks for have begun, the server still answers HTTP requests, until the last
+///   session has ended.
+/// - If `options` has no number of sessions, and the system has no file descriptor or no memory for a connection, the
+///   server warns and tries again.
 ///
 /// # Errors
 ///
-/// - `Device`: a connection can't be accepted for any other reason; returned once the sessions that were begun have
-///   ended.
-/// - `Memory` and `Seat`: before the first connection is accepted.
+/// - `Device`: a connection can't be accepted while sessions are still to begin, and the server doesn't try again. The
+///   call returns this error once the sessions under way have ended.
+/// - `Memory`: out of memory, before the first connection is accepted.
+/// - `Seat`: no reader of the desk's published copies can be made for a slot, before the first connection is accepted.
 ///
-/// Cost: that of the lines, and two threads that sleep. A session under way takes a thread and 0.2 MB of memory, and up
-/// to 0.3 MB more if a long line was pushed to it. A free slot takes next to nothing. Memory doesn't grow with the
-/// sessions that have ended.
+/// Cost: that of answering the lines, and two threads that sleep. A session under way takes a thread and 0.2 MB of
+/// memory, and up to 0.3 MB more if its client pushed a long line. A free slot takes next to nothing. Memory doesn't
+/// grow with the number of sessions that have ended.
 pub fn serve_on<R: Net + Threads + Wait + Clock + Sync, W: Warn>(
     resources: Resources<'_, R>,
     options: ServerOptions<'_>,
@@ -84,21 +86,22 @@ pub fn serve_on<R: Net + Threads + Wait + Clock + Sync, W: Warn>(
     })
 }
 
-/// Serves sessions on a sheet as [`serve_on`] does, and makes their changes durable in this journal.
+/// Serves sessions on a sheet as [`serve_on`] does, makes their changes durable in `journal`, and returns the closed
+/// sheet and the journal.
 ///
 /// All that a reply shows or acknowledges is durable before the reply is sent. At the end the journal has all of the
-/// closed sheet's history. It calls `warner` soon after a session was pushed changes of the sheet's own replica that
-/// the sheet lacked.
+/// closed sheet's history. The server calls `warner` soon after a client pushed changes that are marked with the
+/// sheet's own replica, and that the sheet lacked.
 ///
-/// If the journal's device fails, or there is no memory for one of its lines, all sessions are ended, and the result is
-/// `Device`. No session sends what isn't durable. There is one exception, when only memory was lacking: if no session
-/// was left to begin, and the last sync, at the close, succeeds, the result is as if there had been memory.
+/// If the journal's device fails, or there is no memory for a line of the journal, the server ends all sessions, and
+/// the result is `Device`. Even then no session sends what isn't durable. In one case the call still succeeds: only
+/// memory was lacking, no session was left to begin, and the last sync, at the close, succeeds.
 ///
 /// # Errors
 ///
 /// `Device`, as above, and the errors of [`serve_on`].
 ///
-/// Cost: that of `serve_on`, and of the syncs, one for all sessions that wait at a time.
+/// Cost: that of `serve_on`, and that of the syncs. One sync serves all sessions that wait for a sync at that time.
 pub fn serve_kept_on<R: Net + Threads + Wait + Clock + Sync, D: Device + Drop + Send, W: Warn>(
     resources: Resources<'_, R>,
     options: ServerOptions<'_>,

@@ -1,4 +1,4 @@
-//! A slot: room for one session at a time, and for the next once that is over.
+//! A slot: room for one session at a time. The slot's next session begins once the last one is over.
 ghost use Rattle.std.specs.Prelude.{◌≡◌, ◌+◌, ◌<◌, ◌^◌, true, MatchResult};
 ghost use Rattle.ps_server.specs.Sessions.{Attended, IsAttended};
 

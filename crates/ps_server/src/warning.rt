@@ -1,17 +1,17 @@
 //! Warnings of a server that goes on.
 
-/// Warns of what goes wrong while a server goes on. The server calls it again and again while a cause lasts. So an
-/// implementation that has warned of a cause does nothing.
+/// Warns of faults that don't end a server. The server may call the same method again and again, so an implementation
+/// should do nothing if it has given the same warning before.
 pub trait Warn {
-    /// Warns that a session was pushed changes of the sheet's own replica that the sheet lacked. The replica makes
-    /// changes elsewhere, too, or the sheet's file has lost some.
+    /// Warns that a client pushed changes that are marked with the sheet's own replica, and that the sheet lacked. So
+    /// another sheet uses the same replica number, or the sheet's file has lost changes.
     ///
-    /// Cost: that of the device that it writes to.
+    /// Cost: that of the device that the warner writes to.
     fn warn(&mut self);
 
-    /// Warns that the system has no file or no memory for one more connection, for now.
+    /// Warns that the system has no file descriptor or no memory for one more connection at the moment.
     ///
-    /// Cost: that of the device that it writes to.
+    /// Cost: that of the device that the warner writes to.
     fn warn_of_crowd(&mut self);
 }
 

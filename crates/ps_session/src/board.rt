@@ -11,7 +11,7 @@ use ps_value::Value;
 use std::alloc::Global;
 use std::thread::Threads;
 
-/// The outcome of a merged delta.
+/// What merging a delta did.
 #[derive(Clone, Copy, Debug, PartialEq, Eq)]
 pub enum Merged {
     /// Something in the delta was new, and became the change with this number; the reply is `ok`.
@@ -24,8 +24,9 @@ pub enum Merged {
 ///
 /// A board's changes are numbered from 1 on, in the order in which it made them or took them in.
 ///
-/// The methods that change something count formula evaluations on a meter `M`, and may start threads through `rt`. A
-/// refusal becomes the reply unchanged. So a method may refuse as out of memory only if it takes memory.
+/// The methods that change the board count formula evaluations on a meter `M`, and may start threads through `rt`. A
+/// session replies with the refusal that a method returns. So a method may refuse as out of memory only if its work
+/// takes memory.
 pub trait Board<M> {
     /// What each method answers.
     ghost calls: { Calls Self };
@@ -38,7 +39,7 @@ pub trait Board<M> {
         ensures { (old new : Self) (line text : List ℕ) → BoardAnswers calls old line text new
             → answers old line text new };
 
-    /// Makes an edit, and returns the number of that change, for the reply `ok`.
+    /// Makes an edit, and returns the number of the new change, for the reply `ok`.
     ///
     /// Cost: that of the change, and of the other cells whose shown values it changes.
     fn apply_edit<R: Threads + Sync>(
@@ -54,15 +55,15 @@ pub trait Board<M> {
     /// Returns whether the board already has all changes in a delta that are marked with the board's own replica. If
     /// not, the replica's number is used elsewhere too, or changes of this replica were lost.
     ///
-    /// A session asks before it takes the delta in, and reports a false to its watcher. No reply depends on it, so it
-    /// has no contract.
+    /// A session calls `has_own` before it takes the delta in, and reports false to its watcher (`Outcome::Elsewhere`).
+    /// No reply depends on the result, so the method has no contract.
     ///
-    /// Cost: for each count in the delta (of a counter), a pass over the counts of its cell here. For each pair in the
-    /// delta (of a set), a search among the pairs of its cell here.
+    /// Cost: for each count in the delta (of a counter), a pass over the board's counts of the same cell. For each pair
+    /// in the delta (of a set), a search among the board's pairs of the same cell.
     fn has_own(&self, delta: &Delta) -> bool;
 
-    /// Takes in a delta made elsewhere, and returns a number for the reply `ok`. It is that of the new change, or of
-    /// the last one if the delta changes nothing.
+    /// Takes in a delta made elsewhere. Returns the number of the new change, or of the board's last change if the
+    /// delta changes nothing, for the reply `ok`.
     ///
     /// Cost: that of the change, and of the other cells whose shown values it changes.
     fn apply_delta<R: Threads + Sync>(
@@ -75,7 +76,7 @@ pub trait Board<M> {
         requires shared { IsSync R.row }
         ensures received { calls.receives self.old delta result self.new };
 
-    /// Takes in the parts of a delta made elsewhere that are new to the board.
+    /// Takes in the parts of a delta made elsewhere that are new to the board, and returns whether there were any.
     ///
     /// Cost: that of finding what is new, of the change, and of the other cells whose shown values it changes.
     fn apply_merge<R: Threads + Sync>(
@@ -110,16 +111,16 @@ pub trait Board<M> {
     fn entries(&mut self, alloc: Global, rect: Rect) -> Result<Vec<u8>, Refusal>
         ensures held { calls.lists self.old rect (with_part (λ text. text.items) result) self.new };
 
-    /// Returns at most `most` deltas of the board's history, in order, from the one after the first `from` on.
+    /// Returns the deltas that follow the first `from` deltas of the board's history, in order and at most `most`.
     ///
     /// Cost: the deltas that are returned.
     fn pull(&mut self, alloc: Global, from: u64, most: usize) -> Result<Vec<Delta>, Refusal>
         ensures pulled { calls.pulls self.old from most (with_part (λ deltas. deltas.items) result) self.new }
         ensures numbered { IfOk result (λ deltas. from + length deltas.items < 2 ^ 64) };
 
-    /// Waits until the board has more changes than `seen`, or for some time, and returns how many it has.
+    /// Waits until the board has more than `seen` changes, or for some time, and returns how many changes it has.
     ///
-    /// If the peer has sent more already (`is_last` is false), it returns at once.
+    /// Returns at once if the client has already sent something after the line `wait` (`is_last` is false).
     ///
     /// Cost: the time that it waits.
     fn wait(&mut self, seen: u64, is_last: bool) -> u64

@@ -9,12 +9,12 @@ use ps_device::{Failed, Sink, hand_on};
 use ps_lines::{Reply, send};
 use std::sync::ledger::Ledger;
 
-/// A way to put replies on a sink of type `K`, and to send them.
+/// A way to put replies on a sink of type `K`, and to send them. Bytes that are put may wait until they are sent.
 pub trait Delivery<K> {
     /// The bytes put so far, if the sink shows them.
     ghost contents: { K → Option (List ℕ) };
 
-    /// The bytes that aren't sent yet.
+    /// The bytes that are put, and aren't sent yet.
     ghost waiting: { K → List ℕ };
 
     /// The number of failed calls.
@@ -23,7 +23,7 @@ pub trait Delivery<K> {
     /// Holds if no reply is sent before the sink is flushed.
     ghost holds_back: { Type 0 };
 
-    /// Puts a reply and its line feed. If the sink fails, a beginning of them is put.
+    /// Puts a reply with its line feed. If the sink fails, only a beginning of these bytes is put.
     fn put_reply(reply: &Reply, sink: &mut K) -> Result<(), Failed>
         ensures sent { Sends (contents sink.old) (contents sink.new) result (reply_text reply.now) }
         ensures calm { OnOk result (failures sink.new ≡ failures sink.old) }
@@ -43,7 +43,7 @@ pub trait Delivery<K> {
         ensures failed { OnErr result (failures sink.old < failures sink.new) };
 }
 
-/// The delivery of a sink that may send replies at any time.
+/// The delivery for a sink that may send replies at any time.
 pub struct AtOnce;
 
 impl<K: Sink> Delivery<K> for AtOnce {
@@ -69,7 +69,7 @@ impl<K: Sink> Delivery<K> for AtOnce {
     }
 }
 
-/// The delivery of a [`HeldOutput`], which holds replies back until it is flushed.
+/// The delivery for a [`HeldOutput`], which holds replies back until it is flushed.
 pub struct HeldBack;
 
 impl<K: Sink + Drop, L: Ledger> Delivery<HeldOutput<K, L>> for HeldBack {

@@ -9,11 +9,11 @@ use ps_grid::Refusal;
 use std::alloc::Global;
 use std::sync::ledger::{Blank, Ledger};
 
-/// A sink that holds back all bytes from another sink until a flush.
+/// A sink in front of another sink. It holds back all bytes until a flush, which puts them on the other sink.
 ///
-/// The bytes that the other sink has, and then those that wait, are all bytes that were put, in order. The buffer of
-/// those that wait grows. A put that is out of memory fails, and counts as a failed call. After a failed flush, the
-/// bytes that the other sink didn't get still wait.
+/// The bytes on the other sink, followed by the waiting bytes, are all bytes that were put, in order. The buffer of the
+/// waiting bytes grows as needed. A put fails when out of memory, and counts as a failed call. After a failed flush,
+/// the bytes that the other sink didn't get still wait.
 #[derive(Drop)]
 pub struct HeldOutput<K: Sink + Drop, L: Ledger> {
     /// the other sink, which gets the waiting bytes at a flush
@@ -27,8 +27,8 @@ pub struct HeldOutput<K: Sink + Drop, L: Ledger> {
 impl<K: Sink + Drop, L: Ledger> HeldOutput<K, L> {
     ghost use Rattle.ps_session.specs.HeldOutputs.{held_contents, held_failures, held_waiting, sink_of};
 
-    /// Creates an output over `sink` that holds nothing back yet. Takes no memory. `blank` opens the ledger in which
-    /// contracts count the failures.
+    /// Creates an output in front of `sink` that holds nothing back yet. Takes no memory. `blank` opens the ledger in
+    /// which contracts count the output's failed calls.
     pub fn new(alloc: Global, sink: K, blank: Blank) -> HeldOutput<K, L>
         requires { IsBlankOf blank L.name L.parts }
         ensures sink { sink_of result ≡ sink }
@@ -43,11 +43,11 @@ impl<K: Sink + Drop, L: Ledger> HeldOutput<K, L> {
         }
     }
 
-    /// Creates an output as [`new`](HeldOutput::new) does, with memory for `room` bytes that it holds back.
+    /// Creates an output as [`new`](HeldOutput::new) does, with a buffer that has room for `room` waiting bytes.
     ///
-    /// Fails only as `Memory`.
+    /// Fails only as `Memory`, when out of memory.
     ///
-    /// Cost: the memory.
+    /// Cost: allocates `room` bytes.
     pub fn with_room(
         alloc: Global,
         sink: K,

@@ -4,14 +4,14 @@ ghost use Rattle.std.specs.Prelude.{◌≡◌, OnErr, OnOk, ⊤};
 use ps_device::Failed;
 use std::alloc::Global;
 
-/// A keeper of a board's changes: it shows them to others, or makes them outlive a crash. Changes are kept once it has
-/// done so. A session syncs its keeper before it sends replies.
+/// A keeper of a board's changes: it shows changes to others, or makes changes outlive a crash. Changes for which it
+/// has done so are *kept*. A session syncs its keeper before it sends replies.
 pub trait Keeper<B> {
     /// Holds if all changes of a board in this state are kept.
     ghost covers: { Self → B → Type 0 };
 
-    /// Holds if the changes that were noted are the first ones of a board in this state, and no sync has failed. The
-    /// caller of a session proves that this stays so when the board gets more.
+    /// Holds if the changes that were noted are the first changes of a board in this state, and no sync has failed. The
+    /// caller of a session proves that this stays so when the board gets more changes.
     ghost fits: { Self → B → Type 0 };
 
     /// Holds if a sync may fail.
@@ -19,8 +19,8 @@ pub trait Keeper<B> {
 
     /// Notes the board's changes that aren't noted yet, and keeps all of them.
     ///
-    /// Fails if its device failed, or when out of memory. Then what was covered stays covered, and the session ends
-    /// without another sync.
+    /// Fails if the keeper's device failed, or when out of memory. Changes that were kept before stay kept, and the
+    /// session ends without another sync.
     ///
     /// Cost: linear in what is noted, and the time that the device takes.
     fn sync(&mut self, alloc: Global, board: &mut B) -> Result<(), Failed>
@@ -32,7 +32,7 @@ pub trait Keeper<B> {
         ensures failed { OnErr result can_fail };
 }
 
-/// A keeper that keeps nothing.
+/// A keeper that does nothing, for a session whose changes needn't be shown or outlive a crash.
 #[derive(Clone, Copy, Debug)]
 pub struct Unkept;
 

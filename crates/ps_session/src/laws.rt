@@ -4,16 +4,18 @@
 ghost use Rattle.ps_session.specs.EditLines.{EditLinesFit, EditsAreLawful};
 ghost use Rattle.ps_session.specs.Laws.{TranscriptIsDecided};
 
-/// States that the replica, the history and the bytes read decide all replies and the history afterwards, if no reply
-/// is out of memory.
+/// States that the replica, the history and the bytes read decide all replies and the history afterwards, if no line is
+/// refused as out of memory.
 pub fn transcript_is_decided()
     ensures { TranscriptIsDecided }
 {}
 
-/// States that the line of an edit's delta is never too long, whatever the replica and the state (`fit`).
+/// States that an edit's delta always fits on a line, whatever the replica and the state, if the delta is in range
+/// (`fit`).
 ///
-/// This holds for each edit of one cell, and for each batch of at most as many cells as a row has. The delta has to be
-/// in range. It is if the deltas of the history are: an edit over such a history makes a delta in range (`lawful`).
+/// The edit changes one cell, or is a batch of at most as many cells as a row has. A delta is in range if its cells and
+/// their states are (`IsLawful` of `ps_wire`). If all deltas of a history are in range, an edit over that history makes
+/// a delta in range (`lawful`).
 pub fn edit_lines_fit()
     ensures fit { EditLinesFit }
     ensures lawful { EditsAreLawful }

@@ -1,12 +1,12 @@
 //! Sessions: lines in, replies out.
 //!
-//! - A [`Board`] answers commands, with a method for each. A sheet is one.
+//! - A [`Board`] answers commands, with a method for each. A sheet is a board.
 //! - [`converse`] is the one loop of all sessions. It reads a source to its end, carries out each line and writes its
-//!   reply, in order. A `Watcher` observes each line. Before replies are sent, a [`Keeper`] stores what the session has
-//!   seen, such as on a disk.
-//! - [`talk`] is that loop without watcher and keeper. [`run`] is [`talk`] for a sheet.
+//!   reply, in order. A `Watcher` observes each line. Before replies are sent, a [`Keeper`] shows the board's changes
+//!   to others, or makes them durable.
+//! - [`talk`] is [`converse`] without watcher and keeper. [`run`] is [`talk`] for a sheet.
 //! - [`sync`], from `ps_peers`, is a client's loop. It pulls from a session at the other end of a connection, and
-//!   pushes to another.
+//!   pushes to another such session.
 //!
 //! [`Command`], [`Reply`] and [`Session`], the buffer that puts a session's lines together, come from `ps_lines`.
 //!
@@ -14,13 +14,14 @@
 //!
 //! The contract to use is that of [`converse`], and of [`run`] for a sheet alone:
 //!
-//! - At the end of the input, all that was read and written is a transcript of the board before and after
-//!   (`specs/Transcript.antt`). It doesn't depend on the pieces in which the bytes came.
+//! - At the end of the input, the replies written and the board afterwards are those that the input calls for, a
+//!   transcript (`specs/Transcript.antt`). A transcript doesn't depend on the pieces in which the input came.
 //! - If the source failed, the complete lines were answered and their replies sent.
 //! - If the sink failed, the reply to one line was cut, or what waited for a flush wasn't sent.
-//! - A line is refused as out of memory only if it takes memory.
-//! - If replies are held back until a flush, the keeper covers a state of the board that some line left. What was sent
-//!   is a beginning of the replies up to that line (`IsCovered` in `specs/Keeping.antt`).
+//! - A line is refused as out of memory only if answering the line takes memory.
+//! - If replies are held back until a flush, the keeper covers the board as it was after some line: it has kept all
+//!   changes up to there. The bytes sent are a beginning of the replies up to that line (`IsCovered` in
+//!   `specs/Keeping.antt`).
 //!
 //! For example, the reply to `set A1 5` is `ok 1`, and to `get A1` then `val 5`. The reply to `pull 0` is
 //! `delta 1 [["A1",[1,1,"5"],[],[]]]`; the line in it can be pushed to another sheet.

@@ -175,19 +175,19 @@ fn read_on<
 
 /// Answers each line of a source from a board, to the end of the input, and returns how many lines had a reply.
 ///
-/// 2^64 - 1 stands for that number and more. The watcher sees each line after it was carried out, and before its reply
-/// is written. A line whose reply can't be written was carried out all the same.
+/// A result of 2^64 - 1 means that number or more. The watcher sees each line after the line was carried out, and
+/// before its reply is written. A line whose reply can't be written was carried out all the same.
 ///
-/// The input is read in pieces of at most `PIECE_BYTES` bytes, and a line may lie in several. Before each read and at
-/// the end it syncs the keeper with the board, and then sends all replies.
+/// The input is read in pieces of at most `PIECE_BYTES` bytes, and a line may lie in several pieces. Before each read
+/// and at the end, `converse` syncs the keeper with the board, and then sends all replies.
 ///
-/// If replies are [`HeldBack`](crate::HeldBack), it also does so once `PIECE_BYTES` bytes of them wait, and before a
-/// line `wait`. It sends no reply at another time, and none after a sync or the sink failed. So at any end the keeper
-/// covers a state of the board that has all that was shown or acknowledged. Under [`AtOnce`](crate::AtOnce) a reply may
-/// be sent before the sync.
+/// If replies are [`HeldBack`](crate::HeldBack), it also syncs and sends once `PIECE_BYTES` bytes of replies wait, and
+/// before a line `wait`. It sends no reply at another time, and none after a sync or the sink failed. So however the
+/// session ends, all changes that the sent replies show or acknowledge are kept. Under [`AtOnce`](crate::AtOnce), a
+/// reply may be sent before the sync.
 ///
 /// Cost: O(n) in the n bytes of the input and the replies. In addition: what the board takes for each line, the memory
-/// of one line and of the replies that wait, a decoder, the watcher's own, and a sync each time that replies are sent.
+/// of one line and of the replies that wait, a decoder, the watcher's work, and a sync each time that replies are sent.
 pub fn converse<
     R: Threads + Sync,
     S: Source,

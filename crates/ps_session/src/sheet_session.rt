@@ -17,10 +17,11 @@ use std::thread::Threads;
 
 /// Answers each line of a source from a sheet, to the end of the input, and returns how many lines had a reply.
 ///
-/// 2^64 - 1 stands for that number and more. A line whose reply can't be written was carried out all the same. After a
-/// fault the sheet is the one after the last line that was carried out.
+/// A result of 2^64 - 1 means that number or more. A line whose reply can't be written was carried out all the same.
+/// After a fault the sheet is as the last line that was carried out left it.
 ///
-/// If each delta of the history fits a line, as in an empty history, this stays so, and no pull is refused as too long.
+/// If each delta of the history fits on a line, each delta does so afterwards, and no `pull` is refused as too long. An
+/// empty history is such a history.
 ///
 /// Cost: that of [`talk`].
 pub fn run<R: Threads + Sync, S: Source, K: Sink, L: Ledger>(

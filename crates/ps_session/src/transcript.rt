@@ -312,8 +312,8 @@ pub enum RunFault {
 
 /// Answers each line of a source on a sink, to the end of the input, and returns how many lines had a reply.
 ///
-/// 2^64 - 1 stands for that number and more. It is [`converse`] without watcher and keeper. The sink may send replies
-/// at any time. Before each read and at the end all are sent.
+/// A result of 2^64 - 1 means that number or more. `talk` is [`converse`] without watcher and keeper. The sink may send
+/// replies at any time. Before each read and at the end, `talk` sends all replies.
 ///
 /// Cost: that of [`converse`].
 pub fn talk<R: Threads + Sync, S: Source, B: Board<M>, M, K: Sink>(

@@ -1,4 +1,4 @@
-//! Why a kept file isn't squashed.
+//! Why a kept file isn't shortened.
 ghost use Rattle.std.specs.Prelude.{◌≡◌};
 ghost use Rattle.ps_shorten.specs.declared.fault.ShortenFault.TheVariants.{Memory};
 
@@ -11,11 +11,11 @@ pub enum ShortenFault {
     Memory,
     /// Replacing the file failed.
     Device,
-    /// The line with this number, from 1, is one that a start refuses, or ends in a carriage return.
+    /// A start refuses the line of this number, or the line ends in a carriage return. Lines count from 1.
     Line(u64),
-    /// The file belongs to this other replica.
+    /// The file belongs to the replica of this number, not to the one that was asked for.
     Replica(u8),
-    /// The joined state of one cell is too long for a line.
+    /// The joined state of one cell is too long for one line of the new file.
     TooLong,
 }
 

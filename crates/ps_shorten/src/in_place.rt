@@ -26,9 +26,9 @@ use std::thread::Threads;
 /// How much shorter a file must get for [`shorten`] to replace it.
 #[derive(Clone, Copy, Debug, PartialEq, Eq)]
 pub enum Worth {
-    /// The file gets shorter.
+    /// The new file has fewer bytes than the old one.
     Less,
-    /// The file gets at most half as long.
+    /// The new file has at most half the bytes of the old one.
     Half,
 }
 
@@ -52,7 +52,8 @@ pub struct Shortening {
     ghost replica_in_range: { (1 ≤ replica) × (replica ≤ REPLICAS) },
 }
 
-/// How many changes a file had before [`shorten`] and has after it; both are equal if the file wasn't replaced.
+/// How many changes a start read from a file before [`shorten`], and reads after it. Both numbers are equal if the file
+/// wasn't replaced.
 #[derive(Clone, Copy, Debug, PartialEq, Eq)]
 pub struct Shortened {
     /// The number of changes before.
@@ -194,12 +195,13 @@ fn read_and_squash<R: Threads + Sync, L: Ledger>(
 }
 
 /// Replaces a kept file by what `squash` makes of its whole lines, if the file gets as short as `asked.worth` demands.
-/// Returns how many changes the file had before and has after. A start then reads a history with the same join from it.
+/// Returns how many changes the file had before and has after. The history that a start of the program then reads joins
+/// to the same state as before. `meter` counts evaluations, for contracts.
 ///
 /// # Errors
 ///
-/// - `Line`: the number of a line that a start refuses, or that ends in a carriage return.
-/// - `Replica`: the file belongs to this other replica.
+/// - `Line`: a start refuses the line of this number, or the line ends in a carriage return.
+/// - `Replica`: the file belongs to the replica of this number, not to `asked.replica`.
 /// - `TooLong`: the joined state of one cell is too long for a line.
 /// - `Memory`: out of memory.
 /// - `Device`: replacing the file failed. The file is as it was, or it has been replaced and its name may not be

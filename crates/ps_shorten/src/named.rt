@@ -15,7 +15,7 @@ use std::rt::Files;
 /// The ending of a new file's name until it replaces the old file.
 const UNFINISHED: &str = ".squashing";
 
-/// A file that is read whole, and replaced whole.
+/// A file with a name, which is read whole and replaced whole.
 pub trait Replace {
     /// The bytes that a start finds under the file's name.
     ghost content: { Self → List ℕ };
@@ -25,7 +25,8 @@ pub trait Replace {
         ensures { result.now ≡ content self.now };
 
     /// Replaces the file by a new one with the bytes `text`, and syncs these bytes and the file's name. At each moment
-    /// the name leads to the whole old file or to the whole new one, also after a crash.
+    /// the name leads to the whole old file or to the whole new one, also after a crash. If the call fails, the name
+    /// leads to either.
     ///
     /// Cost: linear in the bytes, and the time that the device takes.
     fn replace(&mut self, text: Vec<u8>) -> Result<(), Failed>
@@ -43,12 +44,12 @@ struct NewFile {
 /// A file of the operating system, under its name. It is trusted that the system does what its calls report: contracts
 /// only repeat their results.
 ///
-/// A `NamedFile` has the lock of the old file, which it was made from, and of the new file that replaces it. It has
-/// both locks until it is dropped, and locks the new file before this gets the name. So the file under the name is
-/// locked all that time, and a start meanwhile fails: another program has the file.
+/// A `NamedFile` holds the lock of the old file, which it was made from, and of the new file that replaces the old one.
+/// It holds both locks until it is dropped, and locks the new file before that file gets the name. So the file under
+/// the name is locked all that time, and a start of the program meanwhile fails, because another process has the file.
 ///
-/// A start that opened the old file before the replacement may lock it once the `NamedFile` is dropped. It fails as
-/// well, since the name then leads to another file.
+/// A start that opened the old file before the replacement may lock that file once the `NamedFile` is dropped. This
+/// start also fails, since the old file no longer has a name.
 #[derive(Drop)]
 pub struct NamedFile<'a, R: Files<File = File>, F: Found + Drop> {
     rt: &'a R,
@@ -62,8 +63,8 @@ pub struct NamedFile<'a, R: Files<File = File>, F: Found + Drop> {
 }
 
 impl<'a, R: Files<File = File>, F: Found + Drop> NamedFile<'a, R, F> {
-    /// Returns the file at `path`, which was opened as `found`. If a system call fails while the file is replaced,
-    /// `reason` stores why.
+    /// Creates the `NamedFile` of the file at `path`, which was opened as `found`. If a system call fails while the
+    /// file is replaced, `reason` stores why.
     pub fn new(
         rt: &'a R,
         alloc: Global,

@@ -11,21 +11,21 @@ use ps_device::{Sink, Source};
 use ps_peers::{Peer, SyncFault};
 use std::alloc::Global;
 
-/// Pulls all that each of two peers has, first from `from`, and returns both versions and the cells at which the peers
+/// Pulls all deltas of two peers, first those of `from`, and returns both versions and the cells at which the peers
 /// differ.
 ///
-/// It sends only pulls, so it changes nothing at either peer.
+/// The call sends only `pull` requests, so it changes nothing at either peer.
 ///
 /// # Errors
 ///
 /// - `Device`: a connection failed.
-/// - `Line`: a reply doesn't fit its pull or broke off, or its line is no delta.
+/// - `Line`: a reply doesn't fit its `pull`, broke off, or has no valid delta.
 /// - `PeerRefused`: a peer replied `err`.
-/// - `Closed`: a peer closed before its `end`.
-/// - `Memory`: allocation failed.
+/// - `Closed`: a peer closed the connection before its reply `end`.
+/// - `Memory`: out of memory.
 ///
-/// Cost: linear in the lines, with the join of each delta; then a comparison of each cell of the grid. It takes the
-/// memory of two states of the grid.
+/// Cost: linear in the pulled lines, with the join of each delta; then a comparison of each cell of the grid. The call
+/// takes memory for two states of the grid.
 pub fn compare<S: Source + Drop, K: Sink + Drop, T: Source + Drop, M: Sink + Drop>(
     alloc: Global,
     from: &mut Peer<S, K>,

@@ -2,16 +2,18 @@
 //!
 //! [`compare`] pulls all that each of two peers has, joins it, and finds the cells that differ. It compares what the
 //! cells hold: contents, counters and sets, shown or not. So two peers that took the same changes in another order, or
-//! in other groups, are in step, whatever their versions.
+//! in other groups, hold the same, whatever their versions. They are then *in step*.
 //!
-//! It merges nothing, pushes nothing, and opens no connection: a peer is one of `ps_peers`.
+//! This crate merges nothing into a peer, pushes nothing, and opens no connection: the caller passes each peer as an
+//! open `Peer` (`ps_peers`).
 //!
 //! The contract to use is that of [`compare`]. The cells of a [`Step`] are exactly those at which the joins of all
 //! deltas that each peer returned differ, in order (`IsCompared`, in `specs/Steps.antt`). Also after a fault, a peer
 //! was only asked for its deltas (`WasAsked`).
 //!
-//! If one peer returns `delta 1 [["A1",[1,1,"5"],[],[]]]` and then `end 1`, and the other one `end 0`, they differ at
-//! `A1`. [`Step::line`] then returns `differ 1 A1`. If both return the delta, it returns `in step at 1 and 1`.
+//! Say one peer returns `delta 1 [["A1",[1,1,"5"],[],[]]]` and then `end 1`, and the other peer returns `end 0`. The
+//! two differ at `A1`, and [`Step::line`] returns `differ 1 A1`. If both peers return the delta, [`Step::line`] returns
+//! `in step at 1 and 1`.
 //!
 //! Cost: linear in the lines, with the join of each delta; then a comparison of each cell of the grid. It takes the
 //! memory of a state of the grid for each peer.

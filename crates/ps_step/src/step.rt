@@ -7,17 +7,17 @@ use itoa::Buffer;
 use ps_grid::{Cell, NAME_BYTES};
 use std::alloc::{AllocError, Global};
 
-/// The most cells that the line of a [`Step`] names.
+/// The most cells that [`Step::line`] names. The number in the line counts all cells that differ.
 pub const MOST_NAMES: usize = 20;
 
-/// The outcome of a comparison of two peers.
+/// The outcome of a comparison of two peers by [`compare`](crate::compare).
 #[derive(Drop)]
 pub struct Step {
-    /// the version of the first peer
+    /// The version of the first peer: how many changes its history has.
     pub from: u64,
-    /// the version of the other peer
+    /// The version of the second peer.
     pub to: u64,
-    /// the cells at which they differ, row by row
+    /// The cells at which the two peers differ, row by row.
     pub apart: Vec<Cell>,
 }
 
@@ -77,16 +77,18 @@ fn uneven_line(alloc: Global, cells: &[Cell]) -> Result<Vec<u8>, AllocError>
 }
 
 impl Step {
-    /// Returns whether the two peers hold the same.
+    /// Returns whether the two peers hold the same in every cell.
     pub fn is_even(&self) -> bool
         ensures { Decides result (self.now.apart.items ≡ []) }
     {
         self.apart.is_empty()
     }
 
-    /// Returns the outcome as a line, with its line feed. It is `in step at` and both versions if no cell differs. Else
-    /// it is `differ`, the number of cells that differ, and the names of the first [`MOST_NAMES`] of them. Fails when
-    /// out of memory.
+    /// Returns the outcome as a line, with its line feed. Fails when out of memory.
+    ///
+    /// If no cell differs, the line is `in step at V and W`, with the versions of the first and the second peer. If
+    /// some cells differ, the line is `differ`, the number of cells that differ, and the names of at most the first
+    /// [`MOST_NAMES`] of these cells.
     pub fn line(&self, alloc: Global) -> Result<Vec<u8>, AllocError>
         ensures { IfOk result (λ line. line.items ≡ step_text self.now.from self.now.to self.now.apart.items) }
     {
