@@ -33,7 +33,7 @@ OPTIONS = {
     "--workers": "threads", "--replica": "of this replica", "--strict": "status 3", "--squash": "half as long",
     "--keep": {"run": "kept in", "serve": "kept in", "squash": "in its place"},
     "--entries": "entries", "--port": "listen", "--sessions": "before it ends", "--seats": "to serve at a time",
-    "--wait": "wait for a seat", "--idle": "be silent", "--after": "passes over", "--until-now": "ends once",
+    "--wait": "wait for a session slot", "--idle": "be silent", "--after": "passes over", "--until-now": "ends once",
     "--every": "milliseconds", "--title": "title of the page", "--once": "all that the other one had",
     "--check": "hold the same", "--until": "from the first on", "--with": "merges at",
     "--lines": "lines of standard input", "--without": "this replica assigned",

@@ -21,7 +21,7 @@ use ps_device::Sink;
 use ps_eval::Meter;
 use ps_grid::Refusal;
 use ps_keep::{DigestedDevice, Journal, KeptFile};
-use ps_server::{Closed, ServerOptions, serve_kept_on, serve_on};
+use ps_server::{Closed, ServerOptions, serve_in_memory, serve_with_journal};
 use ps_session::Resources;
 use ps_sheet::Sheet;
 use ps_words::ServeOptions;
@@ -95,7 +95,7 @@ fn tell_page<W: Write>(alloc: Global, port: u16, told: &mut W) {
     tell_line(alloc, &PageAddress { port }, told);
 }
 
-/// Serves sessions over TCP on a new, empty sheet, as [`serve_on`] does, and returns the closed sheet.
+/// Serves sessions over TCP on a new, empty sheet, as [`serve_in_memory`] does, and returns the closed sheet.
 ///
 /// It listens on `options.port` of this machine, and writes `listening` and the port to `out`. Once `options.sessions`
 /// sessions have ended, it writes `closed` and the sheet's version. If `options.sessions` is `None`, it serves until
@@ -108,9 +108,9 @@ fn tell_page<W: Write>(alloc: Global, port: u16, told: &mut W) {
 /// - [`ProgramFault::PortFailed`] if the port can't be listened on. Then nothing was written.
 /// - `Memory` if the sheet can't be allocated.
 /// - `Device` if `out` fails.
-/// - Otherwise those of [`serve_on`].
+/// - Otherwise those of [`serve_in_memory`].
 ///
-/// Cost: that of opening a sheet, and of [`serve_on`].
+/// Cost: that of opening a sheet, and of [`serve_in_memory`].
 pub fn serve<
     R: Net<Listener = TcpListener, Stream = TcpStream> + Threads + Wait + Clock + Sync,
     K: Sink,
@@ -143,7 +143,7 @@ pub fn serve<
     }
     tell_page(resources.alloc, options.port, &mut told);
     let mut warner = Warner::of_connections(resources.alloc, told);
-    let closed = serve_on(
+    let closed = serve_in_memory(
         resources,
         server_options(&listener, options),
         sheet,
@@ -155,7 +155,7 @@ pub fn serve<
     }
 }
 
-/// Serves sessions over TCP on the sheet of a kept file, as [`serve_kept_on`] does, and returns the closed sheet with
+/// Serves sessions over TCP on the sheet of a kept file, as [`serve_with_journal`] does, and returns the closed sheet with
 /// its journal.
 ///
 /// It listens on `options.port` of this machine, opens the file of `name`, and writes `listening` and the port to
@@ -171,11 +171,11 @@ pub fn serve<
 ///
 /// - [`ProgramFault::PortFailed`] if the port can't be listened on. Then nothing was written.
 /// - Those of [`open_kept_sheet`] if the file is refused. Then nothing was written.
-/// - The fault of [`lost_file`], which names the file, if [`serve_kept_on`] fails with `Device`.
+/// - The fault of [`lost_file`], which names the file, if [`serve_with_journal`] fails with `Device`.
 /// - `Device` if `out` fails.
-/// - Otherwise the errors of [`serve_kept_on`].
+/// - Otherwise the errors of [`serve_with_journal`].
 ///
-/// Cost: that of [`open_kept_sheet`] and of [`serve_kept_on`].
+/// Cost: that of [`open_kept_sheet`] and of [`serve_with_journal`].
 pub fn serve_kept<
     R: Files<File = File>
         + Net<Listener = TcpListener, Stream = TcpStream>
@@ -219,7 +219,7 @@ pub fn serve_kept<
     let mut warner = tell_opened(resources.alloc, name.path, &sheet, told);
     let journal = keeper.into_journal();
     let asked = server_options(&listener, options);
-    let closed = match serve_kept_on(resources, asked, sheet, journal, &mut warner) {
+    let closed = match serve_with_journal(resources, asked, sheet, journal, &mut warner) {
         Ok(closed) => closed,
         Err(Refusal::Device) => return Err(lost_file(resources.alloc, name)),
         Err(refusal) => return Err(ProgramFault::Refused(refusal)),

@@ -15,16 +15,9 @@
 //! To write a rectangle as text, a desk first copies the rectangle's cells, and then releases the lock or the published
 //! copy. So no change waits until a text is written.
 //!
-//! The contracts to use:
-//!
-//! - What a pass has seen only grows.
-//! - A fresh [`Receipt`] is one whose delta was appended. Its number is above the numbers of all changes that the pass
-//!   had seen, and the delta has this number in the history.
-//! - A read ([`Pass::read`], [`Pass::read_all`]) shows the settled (fully recalculated) values of a whole history. The
-//!   history has all that the pass had seen or appended.
-//! - A pull ([`Desk::pull`]) returns exactly the deltas after a number in the history, up to a number of them.
-//! - [`Desk::close`] returns the sheet. The sheet's history begins with all that each pass has seen, and has grown by
-//!   as many deltas as the passes appended.
+//! The contracts to use are those of [`Desk::edit`], [`Desk::receive`] and [`Desk::merge`] for changes, whose
+//! [`Receipt`] is fresh if the delta was appended, of [`Pass::read`] and [`Pass::read_all`] for values, of
+//! [`Desk::pull`] for deltas, and of [`Desk::close`] for the end.
 //!
 //! A [`Seat`] is a desk and a session's pass. It is a `Board` of `ps_session`, so `converse` uses it to answer the
 //! lines of a session. Its receipts enclose no delta, since no reply needs one. The program doesn't call

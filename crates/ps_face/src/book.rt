@@ -150,7 +150,7 @@ impl Model for BookPrefix {
 }
 
 impl BookPrefix {
-    /// Returns another token for the same beginning. It takes no memory.
+    /// Returns another token for the same beginning of the published list. It takes no memory.
     pub fn again(&self) -> BookPrefix
         ensures { result ≡ self.now }
     {

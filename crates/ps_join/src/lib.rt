@@ -8,13 +8,8 @@
 //! This crate knows no sheet, and opens no connection: a peer is a `Peer` of `ps_peers`. A group of changes is passed
 //! on as the peer wrote it, in a line `merge`.
 //!
-//! The contract to use is that of [`join_once`] and of [`join`]. The deltas merged at one peer are the groups that the
-//! other returned, in order and each once (`IsJoining`, in `specs/Joins.antt`). After a fault, all groups that were
-//! pulled are known to be merged, except for at most one (`IsStopped`). The fault names the peer where it happened.
-//!
-//! For [`relay`], the contract to use is `HasRelayed`, in `specs/Relays.antt`. The deltas merged at the server are
-//! those that came in at the intake, in order. The lines written are groups that the server returned, of changes that
-//! didn't come in. Each change of the server up to the relay's position was written or came in.
+//! The contracts to use are those of [`join_once`] and [`join`] (`specs/Joins.antt`), and that of [`relay`]
+//! (`specs/Relays.antt`). A fault names the peer where it happened.
 //!
 //! For example, one peer replies `delta 2 [["A1",[1,1,"5"],[],[]]]` to `pull 0 16`. The join sends the other peer
 //! `merge [["A1",[1,1,"5"],[],[]]]`. The reply `ok 1` says that this delta became the other peer's first change. So

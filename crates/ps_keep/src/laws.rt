@@ -10,8 +10,8 @@ pub fn crashes_keep_the_acknowledged()
     ensures { (j : JournalView) → IsJournal j → SurvivesCrashes j.written j.synced j.kept j.lines }
 {}
 
-/// Shows that the lines of a journal's file still begin with all acknowledged ones if a crash has torn the file's end,
-/// so that any bytes stand after the synced ones.
+/// Shows that the lines of a journal's file still begin with all acknowledged ones if a crash has torn the file's end.
+/// Then any bytes may stand after the synced ones.
 pub fn tears_keep_the_acknowledged()
     ensures { (j : JournalView) → IsJournal j → SurvivesTears j.written j.synced j.kept }
 {}

@@ -8,17 +8,8 @@
 //! This crate is not the sheet: it knows no deltas and no replicas, and its caller decides which lines a file may have.
 //! It starts no thread. Its only lock is that of the file, which ends with the process.
 //!
-//! The contracts to use:
-//!
-//! - [`Journal::sync`]: after a sync all noted lines are durable. After a failed sync the lines that were acknowledged
-//!   before are still durable, and the file is cut to these lines if possible.
-//! - [`open`]: the journal's lines are the whole lines of the file.
-//! - The laws: the lines of the file after a crash begin with all acknowledged lines, and are a beginning of the noted
-//!   lines.
-//! - [`DigestedFile::read`]: the file's digest lines are right, and the returned file shows the bytes of its other
-//!   lines.
-//! - [`digested_files_survive`]: a start accepts the file after a crash, and reads what a crash could leave of the
-//!   lines without digests.
+//! The contracts to use are those of [`Journal::sync`], [`open`] and [`DigestedFile::read`], the laws of the file after
+//! a crash (`laws.rt`), and [`digested_files_survive`].
 //!
 //! A [`DigestedFile`] is a found file that has digest lines, by which a start sees damage. A digest line is the word
 //! `replica`, a space and 16 hex digits. The digits are the first 8 bytes of the MD5 of all bytes from the previous

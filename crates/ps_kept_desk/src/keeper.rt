@@ -125,7 +125,7 @@ impl<L: DeskName, D: Device + Drop> DeskKeeper<L, D> {
 /// The keeper of one session at a desk. A contract sees the keeper as the beginning of the desk's published list that
 /// the keeper knows to be durable.
 #[derive(Drop)]
-pub struct SeatKeeper<'a, L: DeskName, W: Wait + Drop, D: Device + Drop, V: Wait> {
+pub struct SessionKeeper<'a, L: DeskName, W: Wait + Drop, D: Device + Drop, V: Wait> {
     keeper: &'a DeskKeeper<L, D>,
     desk: &'a Desk<L, W>,
     /// the means by which it waits for the locks
@@ -134,7 +134,7 @@ pub struct SeatKeeper<'a, L: DeskName, W: Wait + Drop, D: Device + Drop, V: Wait
 }
 
 impl<'a, L: DeskName, W: Wait + Drop, D: Device + Drop, V: Wait> Model
-    for SeatKeeper<'a, L, W, D, V> {
+    for SessionKeeper<'a, L, W, D, V> {
     ghost use Rattle.std.specs.Prelude.{List};
     ghost use Rattle.std.specs.Coded.{codes};
     ghost use Rattle.ps_face.specs.declared.patch.Note.{Note};
@@ -147,15 +147,15 @@ impl<'a, L: DeskName, W: Wait + Drop, D: Device + Drop, V: Wait> Model
     ghost view = { λ k. k.kept };
 }
 
-impl<'a, L: DeskName, W: Wait + Drop, D: Device + Drop, V: Wait> SeatKeeper<'a, L, W, D, V> {
+impl<'a, L: DeskName, W: Wait + Drop, D: Device + Drop, V: Wait> SessionKeeper<'a, L, W, D, V> {
     /// Creates the keeper of a session that begins. The call may wait while other sessions sync.
     pub fn new(
         keeper: &'a DeskKeeper<L, D>,
         desk: &'a Desk<L, W>,
         wait: &'a V,
-    ) -> SeatKeeper<'a, L, W, D, V> {
+    ) -> SessionKeeper<'a, L, W, D, V> {
         let kept = keeper.record.lock(wait).kept();
-        SeatKeeper {
+        SessionKeeper {
             keeper,
             desk,
             wait,
@@ -167,7 +167,7 @@ impl<'a, L: DeskName, W: Wait + Drop, D: Device + Drop, V: Wait> SeatKeeper<'a, 
     pub fn leave(self) -> DurablePosition<L>
         ensures { result ≡ self.entry }
     {
-        let SeatKeeper { kept, .. } = self;
+        let SessionKeeper { kept, .. } = self;
         kept
     }
 
@@ -190,7 +190,7 @@ impl<'a, L: DeskName, W: Wait + Drop, D: Device + Drop, V: Wait> SeatKeeper<'a, 
 /// The sync of a session at a desk. After it all changes that the session has seen are shown to everyone and durable,
 /// whichever session made them.
 impl<L: DeskName, W: Wait + Drop, D: Device + Drop, V: Wait, U: Wait> Keeper<Seat<'_, L, W, U>>
-    for SeatKeeper<'_, L, W, D, V> {
+    for SessionKeeper<'_, L, W, D, V> {
     ghost use Rattle.std.specs.Prelude.{⊤};
     ghost use mathlib.Core.List.{IsPrefix};
 

@@ -4,7 +4,7 @@
 //! crate puts a journal (`ps_keep`) beside the desk, under a lock of its own. The journal's first line names the
 //! replica. Each later line is a change line (`push`) for a delta of the desk's history, in order.
 //!
-//! Before a session sends its replies, its [`SeatKeeper`] makes all changes durable that the session has seen,
+//! Before a session sends its replies, its [`SessionKeeper`] makes all changes durable that the session has seen,
 //! whichever session made them. The first session to come writes and syncs for all sessions that wait. Changes that
 //! arrive meanwhile go into the next sync, all at once. While the device is at work, edits go on.
 //!
@@ -12,7 +12,7 @@
 //!
 //! The contracts to use:
 //!
-//! - [`SeatKeeper`]'s `sync`: the list that the session has seen is a beginning of the list that is reported as
+//! - [`SessionKeeper`]'s `sync`: the list that the session has seen is a beginning of the list that is reported as
 //!   durable.
 //! - [`DeskKeeper::close`]: the journal's durable lines are those of a beginning of the closed sheet's history. This
 //!   beginning has all that any session reported as durable. If the last sync succeeded, it is the whole history.
@@ -29,6 +29,6 @@ mod keeper;
 mod record;
 mod threads;
 
-pub use keeper::{DeskKeeper, SeatKeeper};
+pub use keeper::{DeskKeeper, SessionKeeper};
 pub use record::{DurablePosition, Ended};
 pub use threads::keeper_is_sync;

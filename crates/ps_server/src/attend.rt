@@ -280,7 +280,10 @@ fn answer<
             ended,
         };
     };
-    let at = KeptSession { seat: at, keeper };
+    let at = KeptSession {
+        session: at,
+        keeper,
+    };
     let mut marker = shared.marker();
     let attended = attend_kept(resources, source, sink, at, meter, &mut marker);
     Attended {

@@ -12,7 +12,7 @@ use ps_desk::{Desk, DeskName, Pass, Presence, Seat, ShownPosition};
 use ps_device::{Sink, Source};
 use ps_eval::Meter;
 use ps_keep::Device;
-use ps_kept_desk::{DeskKeeper, DurablePosition, SeatKeeper};
+use ps_kept_desk::{DeskKeeper, DurablePosition, SessionKeeper};
 use ps_lines::{Unwatched, Watcher};
 use ps_session::{HeldBack, HeldOutput, Resources, RunFault, converse};
 use std::sync::Wait;
@@ -137,7 +137,7 @@ pub fn attend_lines<
 #[derive(Drop)]
 pub struct KeptSession<'a, L: DeskName, W: Wait + Drop, D: Device + Drop> {
     /// The desk, and the session's pass and peer.
-    pub seat: DeskSession<'a, L, W>,
+    pub session: DeskSession<'a, L, W>,
     /// The keeper that was made for the desk.
     pub keeper: &'a DeskKeeper<L, D>,
 }
@@ -172,14 +172,14 @@ pub fn attend_kept<
 ) -> Attended<L, DurablePosition<L>>
     ensures covered { (read : List ℕ) × Consumes (S.remaining source.old) (S.remaining source.new) read
         × IsCovered (SeatLines L.replica L.opening) (λ seen. IsPrefix seen.list result.covered)
-        (IsAtEnd (S.remaining source.new)) at.entry.seat.pass (held_contents K.contents sink.old) read
+        (IsAtEnd (S.remaining source.new)) at.entry.session.pass (held_contents K.contents sink.old) read
         result.pass (held_contents K.contents sink.new) (held_waiting K.waiting sink.new) }
     ensures kept { OnOk result.ended (IsPrefix result.pass.list result.covered) }
     ensures flushed { OnOk result.ended (held_waiting K.waiting sink.new ≡ []) }
-    ensures attended { IsAttended L.replica L.opening at.entry.seat.pass result.pass }
+    ensures attended { IsAttended L.replica L.opening at.entry.session.pass result.pass }
 {
     let KeptSession {
-        seat: DeskSession {
+        session: DeskSession {
             desk,
             pass,
             presence,
@@ -188,7 +188,7 @@ pub fn attend_kept<
     } = at;
     let mut seat = Seat::new(desk, resources.threads, pass, presence);
     let _ = seat.leave_to_keeper();
-    let mut own = SeatKeeper::new(keeper, desk, resources.threads);
+    let mut own = SessionKeeper::new(keeper, desk, resources.threads);
     let ended = converse::<
         R,
         S,
@@ -197,7 +197,7 @@ pub fn attend_kept<
         V,
         HeldOutput<K, N>,
         HeldBack,
-        SeatKeeper<'_, L, W, D, R>,
+        SessionKeeper<'_, L, W, D, R>,
     >(resources, source, sink, &mut seat, meter, watcher, &mut own);
     Attended {
         pass: seat.leave().0,

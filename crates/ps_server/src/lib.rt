@@ -1,7 +1,7 @@
 //! A server: the sessions of one sheet, each over a connection of its own.
 //!
-//! - [`serve_on`] accepts connections, and closes the sheet once as many sessions as were asked for have ended.
-//!   [`serve_kept_on`] does the same, and makes each change durable in a journal.
+//! - [`serve_in_memory`] accepts connections, and closes the sheet once as many sessions as were asked for have ended.
+//!   [`serve_with_journal`] does the same, and makes each change durable in a journal.
 //! - [`attend_lines`] and [`attend_kept`] run one session, over any source and sink.
 //! - [`admit`] tells HTTP requests from lines, so that no session carries out any part of a request.
 //!
@@ -21,9 +21,9 @@
 //!
 //! The contracts to use:
 //!
-//! - [`serve_on`] returns the sheet that it was given, with the changes that its slots' passes appended through all
+//! - [`serve_in_memory`] returns the sheet that it was given, with the changes that its slots' passes appended through all
 //!   their sessions (`IsServed`).
-//! - If [`serve_kept_on`] succeeds, the journal has all of the sheet's history.
+//! - If [`serve_with_journal`] succeeds, the journal has all of the sheet's history.
 //! - What a session reads and writes in [`attend_lines`] is the transcript of a `Seat`, a session at the desk.
 //! - [`attend_kept`] sends only what is durable, however the session ends (`IsCovered`, of `ps_session`).
 //!
@@ -56,5 +56,5 @@ pub use connection::{Attended, DeskSession, KeptSession, attend_kept, attend_lin
 pub use counts::Counts;
 pub use guard::{FRONT_LIMIT, Unadmitted, admit, resume};
 pub use options::ServerOptions;
-pub use server::{Closed, serve_kept_on, serve_on};
+pub use server::{Closed, serve_in_memory, serve_with_journal};
 pub use warning::{Unwarned, Warn};

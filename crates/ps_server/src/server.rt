@@ -64,7 +64,7 @@ pub struct Closed<J = ()> {
 /// Cost: that of answering the lines, and two threads that sleep. A session under way takes a thread and 0.2 MB of
 /// memory, and up to 0.3 MB more if its client pushed a long line. A free slot takes next to nothing. Memory doesn't
 /// grow with the number of sessions that have ended.
-pub fn serve_on<R: Net + Threads + Wait + Clock + Sync, W: Warn>(
+pub fn serve_in_memory<R: Net + Threads + Wait + Clock + Sync, W: Warn>(
     resources: Resources<'_, R>,
     options: ServerOptions<'_>,
     sheet: Sheet,
@@ -78,7 +78,7 @@ pub fn serve_on<R: Net + Threads + Wait + Clock + Sync, W: Warn>(
         sheet,
         sessions,
         ..
-    } = serve_sheet::<R, MemoryDevice, W>(resources, options, sheet, None, warner)?;
+    } = serve_with_journal_or_none::<R, MemoryDevice, W>(resources, options, sheet, None, warner)?;
     Ok(Closed {
         sheet,
         sessions,
@@ -86,7 +86,7 @@ pub fn serve_on<R: Net + Threads + Wait + Clock + Sync, W: Warn>(
     })
 }
 
-/// Serves sessions on a sheet as [`serve_on`] does, makes their changes durable in `journal`, and returns the closed
+/// Serves sessions on a sheet as [`serve_in_memory`] does, makes their changes durable in `journal`, and returns the closed
 /// sheet and the journal.
 ///
 /// All that a reply shows or acknowledges is durable before the reply is sent. At the end the journal has all of the
@@ -99,10 +99,10 @@ pub fn serve_on<R: Net + Threads + Wait + Clock + Sync, W: Warn>(
 ///
 /// # Errors
 ///
-/// `Device`, as above, and the errors of [`serve_on`].
+/// `Device`, as above, and the errors of [`serve_in_memory`].
 ///
-/// Cost: that of `serve_on`, and that of the syncs. One sync serves all sessions that wait for a sync at that time.
-pub fn serve_kept_on<R: Net + Threads + Wait + Clock + Sync, D: Device + Drop + Send, W: Warn>(
+/// Cost: that of `serve_in_memory`, and that of the syncs. One sync serves all sessions that wait for a sync at that time.
+pub fn serve_with_journal<R: Net + Threads + Wait + Clock + Sync, D: Device + Drop + Send, W: Warn>(
     resources: Resources<'_, R>,
     options: ServerOptions<'_>,
     sheet: Sheet,
@@ -120,7 +120,7 @@ pub fn serve_kept_on<R: Net + Threads + Wait + Clock + Sync, D: Device + Drop + 
         sheet,
         sessions,
         journal,
-    } = serve_sheet(resources, options, sheet, Some(journal), warner)?;
+    } = serve_with_journal_or_none(resources, options, sheet, Some(journal), warner)?;
     Ok(Closed {
         sheet,
         sessions,
@@ -129,7 +129,11 @@ pub fn serve_kept_on<R: Net + Threads + Wait + Clock + Sync, D: Device + Drop + 
 }
 
 /// Serves sessions on a sheet, with a journal or none, until as many as were asked for have ended.
-fn serve_sheet<R: Net + Threads + Wait + Clock + Sync, D: Device + Drop + Send, W: Warn>(
+fn serve_with_journal_or_none<
+    R: Net + Threads + Wait + Clock + Sync,
+    D: Device + Drop + Send,
+    W: Warn,
+>(
     resources: Resources<'_, R>,
     options: ServerOptions<'_>,
     sheet: Sheet,

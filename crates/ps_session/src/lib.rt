@@ -12,16 +12,8 @@
 //!
 //! This crate opens no device, and it leaves to the sheet what an edit or a delta does.
 //!
-//! The contract to use is that of [`converse`], and of [`run`] for a sheet alone:
-//!
-//! - At the end of the input, the replies written and the board afterwards are those that the input calls for, a
-//!   transcript (`specs/Transcript.antt`). A transcript doesn't depend on the pieces in which the input came.
-//! - If the source failed, the complete lines were answered and their replies sent.
-//! - If the sink failed, the reply to one line was cut, or what waited for a flush wasn't sent.
-//! - A line is refused as out of memory only if answering the line takes memory.
-//! - If replies are held back until a flush, the keeper covers the board as it was after some line: it has kept all
-//!   changes up to there. The bytes sent are a beginning of the replies up to that line (`IsCovered` in
-//!   `specs/Keeping.antt`).
+//! The contract to use is that of [`converse`], and of [`run`] for a sheet alone. `specs/Transcript.antt` has the
+//! replies and the board that an input calls for, `specs/Keeping.antt` what the keeper covers before they are sent.
 //!
 //! For example, the reply to `set A1 5` is `ok 1`, and to `get A1` then `val 5`. The reply to `pull 0` is
 //! `delta 1 [["A1",[1,1,"5"],[],[]]]`; the line in it can be pushed to another sheet.

@@ -92,7 +92,13 @@ fn read_piece<R: Threads + Sync, B: Board<M>, M, W: Watcher, K, D: Delivery<K>, 
 {
     let mut start = 0;
     'parts: while start < piece.len() {
-        match conversation.serve::<B, M, W, K, D>(&piece[start..], board, meter, watcher, sink) {
+        match conversation.answer_piece::<B, M, W, K, D>(
+            &piece[start..],
+            board,
+            meter,
+            watcher,
+            sink,
+        ) {
             Ok(taken) => start += taken,
             Err(_) => return Err(RunFault::Sink),
         }

@@ -232,7 +232,7 @@ impl<R: Threads + Sync> Conversation<'_, R> {
     ///
     /// It stops at the end of the piece, once `PIECE_BYTES` bytes of replies are held back, or before a line `wait` if
     /// any are.
-    pub(crate) fn serve<B: Board<M>, M, W: Watcher, K, D: Delivery<K>>(
+    pub(crate) fn answer_piece<B: Board<M>, M, W: Watcher, K, D: Delivery<K>>(
         &mut self,
         piece: &[u8],
         board: &mut B,

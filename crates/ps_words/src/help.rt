@@ -19,7 +19,7 @@ pub const SEATS_HELP: &str =
     "how many sessions to serve at a time, 1 to 256; each adds 40 instructions to a change, free or not";
 
 /// The help text of `--wait` of `serve`. It has the range 0 to `LONGEST_WAIT`, in seconds.
-pub const WAIT_HELP: &str = "how many seconds a connection may wait for a seat, 0 to 60";
+pub const WAIT_HELP: &str = "how many seconds a connection may wait for a session slot, 0 to 60";
 
 /// The help text of `--idle` of `serve`. It has the range 1 to `LONGEST_IDLE`, in seconds.
 pub const IDLE_HELP: &str =
@@ -217,7 +217,7 @@ this machine, 127.0.0.1, and writes `listening` and the port. Each connection is
 session: its lines are commands, as in `run`, and all sessions change and read the
 one sheet side by side. Standard error gets the address of the sheet's page, at the
 same port: each browser that opens the page has a session, too. When a session ends,
-the next one gets its seat. A connection that finds no free seat waits for one; after
+the next one gets its slot. A connection that finds no free slot waits for one; after
 the time of `--wait` it gets `err 21 seat` and is closed.
 
 With `--sessions` it writes `closed` and the number of changes once so many sessions
@@ -338,7 +338,7 @@ The server listens on this machine, 127.0.0.1. Each line of standard input is se
 there, and its reply is written on standard output, whole, before the next line is
 read. So `talk` does what `run` does, with the sheet that all sessions of the server
 share. A refused line has its reply too, and the session goes on. It ends with the
-input. It ends early, with a word on standard error, if the server has no seat
+input. It ends early, with a word on standard error, if the server has no slot
 (`err 21 seat`), if it closes before the end or sends a reply that isn't due
 (`err 15 line`), or if the connection fails (`err 20 device`).
 

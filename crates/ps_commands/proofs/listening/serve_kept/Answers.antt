@@ -27,5 +27,5 @@ pub returns-in-Ok-tell_closed-clause-told : goal.returns-in-Ok-tell_closed-claus
 returns-in-Ok-tell_closed-clause-told g c =
     Appends-append _ _ _ _ _ c.in-Ok.ensures.told c.in-Ok-tell_closed.ensures.told
 
-pub serve_kept_on-requires-send-D : goal.serve_kept_on-requires-send-D
-serve_kept_on-requires-send-D g c κs within = param_send _ _ (arg_send _ yes _ device_send)
+pub serve_with_journal-requires-send-D : goal.serve_with_journal-requires-send-D
+serve_with_journal-requires-send-D g c κs within = param_send _ _ (arg_send _ yes _ device_send)

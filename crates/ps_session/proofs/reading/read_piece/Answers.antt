@@ -22,7 +22,7 @@ returns-in-Err-clause-covered g c = λ is holds first written read s.
 pub release-requires : goal.release-requires
 release-requires g c = record {
   fits = fits_after_part g.B.Board.answers g.Q.Keeper.fits c.requires.stays c.parts.keeper _ c.parts.board
-      c.serve.new.board _ _ _ _ _ _
+      c.answer_piece.new.board _ _ _ _ _ _
       (under_way_after (Lines g.B.Board.answers) _ _ _ _ _ _ _ _ _ c.requires.under_way c.parts.invariant.stands)
       c.in-Ok.ensures.stands c.parts.invariant.fits;
 }
@@ -66,7 +66,7 @@ returns-in_err-release-clause-covered g c = λ is holds first written read s.
     rw c.in_err-release.ensures.same_board
     elim (keep_or_other c.in_err-release.field-0.0) [
       | inl kept ↦ subst
-          (λ sink. IsCovered lines covers ⊥ first written (read ++ c.args.piece.now) c.serve.new.board
+          (λ sink. IsCovered lines covers ⊥ first written (read ++ c.args.piece.now) c.answer_piece.new.board
           (g.D.Delivery.contents sink) (g.D.Delivery.waiting sink))
           (sym (c.in_err-release.ensures.keep (ap Err kept)).1)
           (part_waits lines first written read c.args.piece.now c.parts.start covers c.parts.board _ _ _ _ _ _ _

@@ -35,7 +35,7 @@ def post(method=b"POST", target=b"/", version=b"HTTP/1.1", end=b"\r\n"):
     return head.replace(b"\r\n", end) + BODY
 
 
-class Door(ProgramTest):
+class Admission(ProgramTest):
     """A test of a server whose sheet nothing may change."""
 
     def untouched(self, server):
@@ -66,7 +66,7 @@ class Door(ProgramTest):
         return client.told()
 
 
-class Requests(Door):
+class Requests(Admission):
     """Requests with lines of a session in their bodies."""
 
     def test_of_each_method(self):
@@ -155,7 +155,7 @@ class Requests(Door):
             self.untouched(server)
 
 
-class Sessions(Door):
+class Sessions(Admission):
     """First lines that begin no request have the replies of a session."""
 
     def test_first_lines_of_a_session(self):
@@ -258,7 +258,7 @@ class Elsewhere(http.server.BaseHTTPRequestHandler):
         """Says nothing."""
 
 
-class Browsers(Door):
+class Browsers(Admission):
     """A page that isn't the server's own, in a real browser, which sends lines by all that a page has."""
 
     def setUp(self):

@@ -2,7 +2,7 @@ use Rattle.std.proofs.Common.{◌≡◌, ◌≤◌, ◌-◌, length, take}
 use Rattle.ps_device.specs.Device.{HoldsBack}
 use Rattle.ps_session.specs.Inside.Stands.{GoesOn}
 use Rattle.ps_lines.specs.Streams.{Lines}
-use Rattle.ps_session.proofs.transcript.Conversation.serve.Given as goal
+use Rattle.ps_session.proofs.transcript.Conversation.answer_piece.Given as goal
 
 -- the bytes before the start were taken in, and nothing failed
 abbrev pub invariant-turns : goal.invariant-turns

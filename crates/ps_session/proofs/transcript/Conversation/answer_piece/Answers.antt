@@ -3,7 +3,7 @@ use Rattle.std.proofs.lemmas.Result.{err_from_is_err_and}
 use Rattle.ps_device.proofs.DeviceLemmas.{HoldsBack-after}
 use Rattle.ps_session.proofs.InputReadToEnd.{cut_rest, stands_more}
 use Rattle.ps_lines.proofs.ReadLemmas.{turn_within}
-use Rattle.ps_session.proofs.transcript.Conversation.serve.Goals as goal
+use Rattle.ps_session.proofs.transcript.Conversation.answer_piece.Goals as goal
 
 pub returns-in_err-start-clause-cut : goal.returns-in_err-start-clause-cut
 returns-in_err-start-clause-cut g c =

@@ -1,4 +1,4 @@
-use Rattle.ps_server.proofs.server.serve_sheet.Given as goal
+use Rattle.ps_server.proofs.server.serve_with_journal_or_none.Given as goal
 
 abbrev pub ghosts-serve_parts-L-Ledger : goal.ghosts-serve_parts-L-Ledger
 ghosts-serve_parts-L-Ledger g a = record { name = a.parts.ledger; parts = a.parts.seats }
