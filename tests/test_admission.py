@@ -71,23 +71,26 @@ class Requests(Admission):
 
     def test_of_each_method(self):
         with serving(None) as server:
-            for method in (b"POST", b"GET", b"PUT", b"OPTIONS", b"HEAD", b"DELETE", b"PATCH", b"TRACE", b"M-SEARCH", b"X"):
+            for method in (b"POST", b"GET", b"PUT", b"OPTIONS", b"HEAD", b"DELETE", b"PATCH", b"TRACE", b"M-SEARCH", b"X",
+                           b"patch", b"get", b"set", b"x"):
                 for end in (b"\r\n", b"\n"):
                     with self.subTest(method=method, end=end):
                         self.assert_refused(server, post(method, end=end))
             self.assert_refused(server, post(b"CONNECT", b"example.org:443"))
             self.assert_refused(server, post(b"OPTIONS", b"*"))
+            self.assert_refused(server, post(b"options", b"*"))
             self.assert_refused(server, b"PRI * HTTP/2.0\r\n\r\nSM\r\n\r\n" + BODY)
             self.assert_refused(server, post(version=b"HTTP/1.0"))
             self.assert_refused(server, b"GET  HTTP/1.1\n" + BODY)
             self.untouched(server)
 
     def test_however_they_are_cut(self):
-        request = post()
+        request, small = post(), post(b"post")
         with serving(None) as server:
             for cut in (1, 2, 4, 5, 6, 7, 10, 14, 15, 16, 17, 30, len(request) - len(BODY), len(request) - 1):
                 with self.subTest(cut=cut):
                     self.assert_refused(server, request[:cut], request[cut:])
+                    self.assert_refused(server, small[:cut], small[cut:])
             self.assert_refused(server, *(bytes([byte]) for byte in request[:18]), request[18:])
             self.untouched(server)
 
@@ -162,10 +165,11 @@ class Sessions(Admission):
         given = {
             b"Get A1\n": b"err 16 command\n", b"GET A1\n": b"err 16 command\n", b"GET / HTTP\n": b"err 16 command\n",
             b"HTTP/1.1\n": b"err 16 command\n", b"A B C\n": b"err 16 command\n",
-            b"set A1 HTTP/1.1\n": b"ok 1\n", b"get A1\n": b"val HTTP/1.1\n", b"get / HTTP/1.1\n": b"err 16 command\n",
+            b"set A1 HTTP/1.1\n": b"ok 1\n", b"get A1\n": b"val HTTP/1.1\n", b"get / HTTP\n": b"err 16 command\n",
+            b"get /\n": b"err 1 cell\n", b"set / x HTTP/1.1\n": b"err 1 cell\n", b"get  / HTTP/1.1\n": b"err 16 command\n",
             b"\nget A2\n": b"val \n", b"\r\nget A2\n": b"val \n", b"\x16\x03\x01\n": b"err 16 command\n",
             b"\xffET / x\n": b"err 16 command\n", b"1\n": b"err 16 command\n", b"GET /\r\n\r\n": b"err 16 command\n",
-            b"walk\r\n\r\n": b"err 16 command\n", b"get / HTTP/1.1\r\nHost: localhost\r\n\r\n": b"err 16 command\n" * 2,
+            b"walk\r\n\r\n": b"err 16 command\n", b"y" * 8_191 + b"\nget A2\n": b"err 16 command\nval \n",
             b"\x16\x03\x01\x02\x00\x01\x00\x01\xfc\x03\x03\r\n\r\n": b"err 16 command\n",
             b"GET A1": b"err 16 command\n", b"X": b"err 16 command\n", b"GET / HTTP/1.1": b"err 16 command\n",
             b"Y" * 8_191 + b"\nget A2\n": b"err 16 command\nval \n", b"Get A1\nget A2\n": b"err 16 command\nval \n",
@@ -194,10 +198,17 @@ class Sessions(Admission):
     def test_a_long_first_line(self):
         text = b"x" * 262_000
         with serving(None) as server:
-            for first, reply in ((b"set A1 " + text, b"err 4 too-long\n"), (b"x" * 300_000, b"err 15 line\n")):
+            for first, reply in ((b"set A1 " + text, b"err 4 too-long\n"), (b"set A1 " + text * 2, b"err 15 line\n")):
                 client = server.client()
                 client.send(first + b"\nget A1\n")
                 self.assertEqual(client.leave(), reply + b"val \n")
+            # (a method may be as long)
+            client = server.client()
+            told = self.told(client, b"x" * 300_000 + b"\nset A1 5\n")
+            if told:
+                self.assertRegex(told, REFUSED_LONG)
+            client.close()
+            self.untouched(server)
 
 
 PAGE = """<!doctype html><title>elsewhere</title>
@@ -267,14 +278,14 @@ class Browsers(Admission):
         self.window = Browser()
         self.addCleanup(self.window.end)
 
-    def site(self, there):
-        """The port of a site with a page that attacks this address."""
+    def site(self, there, port=0):
+        """A site with a page that attacks this address."""
         shown = {"page": PAGE.replace("@ADDRESS@", there).encode()}
-        site = http.server.ThreadingHTTPServer((HERE, 0), type("Site", (Elsewhere,), shown))
+        site = http.server.ThreadingHTTPServer((HERE, port), type("Site", (Elsewhere,), shown))
         self.addCleanup(site.server_close)
         self.addCleanup(site.shutdown)
         threading.Thread(target=site.serve_forever, daemon=True).start()
-        return site.server_address[1]
+        return site
 
     def port(self):
         """A port to which a browser goes."""
@@ -285,7 +296,7 @@ class Browsers(Admission):
 
     def assert_in_vain(self, server, name, there):
         """A page of a site by this name, which attacks the server at this address, changes nothing."""
-        page = self.window.page(f"http://{name}:{self.site(there)}/")
+        page = self.window.page(f"http://{name}:{self.site(there).server_address[1]}/")
         told = page.value("attack()")
         page.close()
         self.untouched(server)
@@ -308,6 +319,22 @@ class Browsers(Admission):
             # (the browser says itself that it is forbidden)
             self.assertEqual(page.value("[document.getElementById('grid'), document.body.textContent.includes('403')]"),
                              [None, True])
+            page.close()
+            self.untouched(server)
+
+    def test_a_page_whose_name_leads_to_the_server_later(self):
+        """A site's page is of the server's origin, where its name and port lead to the server once it is loaded. Then a
+        browser lets it choose any method."""
+        port = self.port()
+        site = self.site("/", port)
+        page = self.window.page(f"http://elsewhere.localhost:{port}/")
+        page.wait_for("typeof attack", "function")
+        site.shutdown()
+        site.server_close()
+        with serving(None, port=port) as server:
+            for method in ("patch", "set", "x", "post", "POST", "PUT"):
+                told = page.value(f"settled(fetch('/', {{method: '{method}', body: LINES}}))")
+                self.assertEqual(told, "answered", method)
             page.close()
             self.untouched(server)
 

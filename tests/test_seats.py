@@ -226,6 +226,8 @@ class Waiting(ProgramTest):
             client = server.client()
             self.assertEqual(client.ask("set A1 5"), "ok 1")
             silent[0].send(b"g")
+            self.assertFalse(silent[0].is_answered_within(0.2))
+            silent[0].send(b"et A")
             self.assertEqual(silent[0].told(), NO_SEAT)
             self.assertEqual(client.leave(), b"")
             self.assertTrue(comes_to(lambda: self.is_answered(silent.pop(), "get A1", "val 5"), SOON))
@@ -430,14 +432,16 @@ class FirstLine(ProgramTest):
                 time.sleep(1.5 * lasting)
                 self.assertEqual(client.ask("get A1"), "val ")
 
-            def silent(_):
-                # it takes no slot, and so it may be silent for longer
+            def silent(sent):
+                # what may begin a request takes no slot, and so it may be silent for longer
                 client = Client(server.port)
+                client.send(sent)
                 time.sleep(1.5 * lasting)
-                self.assertEqual(client.ask("get A1"), "val ")
+                client.send(b"get A1\n"[len(sent):])
+                self.assertEqual(client.reply(), "val ")
 
-            tasks = ((is_dropped, b"set A1"), (is_dropped, b"g"), (goes_on, (b"get A1\n",)),
-                     (goes_on, (b"get ", b"A1", b"\n")), (silent, None))
+            tasks = ((is_dropped, b"set A1"), (is_dropped, b"get A"), (goes_on, (b"get A1\n",)),
+                     (goes_on, (b"get ", b"A1", b"\n")), (silent, b""), (silent, b"g"), (silent, b"get "))
             beside(lambda number: tasks[number][0](tasks[number][1]), len(tasks))
 
 

@@ -6,7 +6,8 @@ ghost use Rattle.ps_grid.specs.Blanks.{IsBlankOf};
 ghost use Rattle.ps_lines.specs.Feeding.{HasNoFeed};
 ghost use Rattle.ps_server.specs.declared.guard.TheConstants.{FRONT_LIMIT};
 ghost use Rattle.ps_server.specs.declared.guard.Unadmitted.TheVariants as Unadmitted;
-ghost use Rattle.ps_server.specs.Guards.{BeginsRequest, IsRequest, begins_small, is_request_line};
+ghost use Rattle.ps_server.specs.Guards.{BeginsRequest, IsRequest, begins_command, begins_no_target, begins_small};
+ghost use Rattle.ps_server.specs.Guards.{is_request_line};
 
 use ps_device::{Reading, Source};
 use ps_lines::{split_part, split_word};
@@ -14,7 +15,7 @@ use std::io::{Chain, ErrorKind, Read};
 use std::sync::ledger::{Blank, Ledger};
 
 /// The number of bytes after which a connection's first line counts as a request if its end hasn't come. A line that
-/// begins with a small letter, a to z, never counts as a request.
+/// begins as a session's command does, with its first word and an argument, never counts as a request.
 pub const FRONT_LIMIT: usize = 8_192;
 
 /// The most bytes of one read.
@@ -23,8 +24,8 @@ const AT_ONCE: usize = 4_096;
 /// The reason for which [`admit`] doesn't take a connection as a session of lines.
 #[derive(Clone, Copy, PartialEq, Eq)]
 pub enum Unadmitted {
-    /// The first line is that of an HTTP request, or has no end within [`FRONT_LIMIT`] bytes and doesn't begin with a
-    /// small letter.
+    /// The first line is that of an HTTP request, or has no end within [`FRONT_LIMIT`] bytes and doesn't begin as a
+    /// command does.
     Request,
     /// The connection couldn't be read, or there was no memory for its first line.
     Failed,
@@ -40,12 +41,33 @@ fn begins_small(bytes: &[u8]) -> bool
     }
 }
 
-/// Returns whether a line is the first one of a request of HTTP: it doesn't begin with a small letter, and its third
-/// word begins with the name of the protocol.
+/// Returns whether bytes begin with one that can't begin the target of a request of HTTP.
+fn begins_no_target(bytes: &[u8]) -> bool
+    ensures { result ≡ begins_no_target bytes.now }
+{
+    match bytes.first() {
+        Some(byte) => *byte != b'/' && *byte != b'*',
+        None => false,
+    }
+}
+
+/// Returns whether bytes begin as a session's command with an argument does. They begin with a small letter, and the
+/// byte after the first space can't begin the target of a request of HTTP.
+fn begins_command(bytes: &[u8]) -> bool
+    ensures { result ≡ begins_command bytes.now }
+{
+    let (_, rest) = split_word(bytes);
+    begins_small(bytes) && begins_no_target(rest.unwrap_or(b""))
+}
+
+/// Returns whether a line is the first one of a request of HTTP: it doesn't begin as a command does, and its third word
+/// begins with the name of the protocol.
+///
+/// A page can choose a method in small letters, so the first byte alone doesn't tell.
 fn is_request_line(line: &[u8]) -> bool
     ensures { result ≡ is_request_line line.now }
 {
-    if begins_small(line) {
+    if begins_command(line) {
         return false;
     }
     let (_, rest) = split_word(line);
@@ -57,19 +79,19 @@ fn is_request_line(line: &[u8]) -> bool
 ///
 /// A first line without an end within [`FRONT_LIMIT`] bytes counts as a request, so that no peer can fill the memory.
 fn judge(front: &[u8]) -> Option<bool>
-    ensures small { begins_small front.now ≡ true → result ≡ Some false }
+    ensures command { begins_command front.now ≡ true → HasNoFeed front.now → result ≡ Some false }
     ensures ended { (line more : List ℕ) → HasNoFeed line → front.now ≡ line ++ 10 ∷ more
         → result ≡ Some (is_request_line line) }
     ensures request { (rest : List ℕ) → IsRequest (front.now ++ rest) → result ≢ Some false }
     ensures cause { result ≡ Some true → IsRequest front.now ⊎ (FRONT_LIMIT ≤ length front.now) }
 {
-    if begins_small(front) {
-        return Some(false);
-    }
     let (line, rest) = split_part(front, b'\n');
     match rest {
         Some(_) => return Some(is_request_line(line)),
         None => {}
+    }
+    if begins_command(front) {
+        return Some(false);
     }
     if front.len() >= FRONT_LIMIT {
         return Some(true);
@@ -79,14 +101,15 @@ fn judge(front: &[u8]) -> Option<bool>
 
 /// Reads the beginning of a connection into `front`, and succeeds once the connection is known to be a session.
 ///
-/// If the first line begins with a small letter, the connection is a session, and `admit` doesn't wait for the end of
-/// this line. It reads any other first line to the end of the line or of the input, or to about [`FRONT_LIMIT`] bytes.
+/// If the first line begins as a command does that has an argument, the connection is a session, and `admit` doesn't
+/// wait for the end of this line. It reads any other first line to the end of the line or of the input, or to about
+/// [`FRONT_LIMIT`] bytes.
 /// `front` then has all bytes that were read, also after the error `Request`.
 ///
 /// # Errors
 ///
 /// - `Request`: the first line is that of an HTTP request, or has no end within [`FRONT_LIMIT`] bytes and doesn't begin
-///   with a small letter.
+///   as a command does.
 /// - `Failed`: the reader fails, or there is no memory for the first line.
 ///
 /// Cost: linear in the bytes of the first line, and the time that the reader takes.
