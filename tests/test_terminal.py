@@ -16,12 +16,13 @@ SPELLED = "val \\u{1b}[31m\\u{7}\\u{7f}\tred\\u{9b}\n".encode()
 
 
 class Terminal(ProgramTest):
-    def at_terminal(self, words, given):
-        """What the program writes at a terminal, in which a line feed stays one."""
+    def at_terminal(self, words, given, stream="stdout", status=0):
+        """What the program writes on this stream at a terminal, in which a line feed stays one."""
         outer, inner = pty.openpty()
         with open(outer, "rb", buffering=0) as shown:
             subprocess.run(["stty", "-opost"], stdin=inner, check=True, timeout=LIMIT)
-            ran = subprocess.Popen([PROGRAM, *words], stdin=subprocess.PIPE, stdout=inner, stderr=subprocess.PIPE)
+            streams = {"stdout": subprocess.PIPE, "stderr": subprocess.PIPE, stream: inner}
+            ran = subprocess.Popen([PROGRAM, *words], stdin=subprocess.PIPE, **streams)
             os.close(inner)
             ran.communicate(given, timeout=LIMIT)
             found = b""
@@ -31,7 +32,7 @@ class Terminal(ProgramTest):
             except OSError:
                 # (the end of a terminal whose programs have ended)
                 pass
-        self.assertEqual(ran.returncode, 0)
+        self.assertEqual(ran.returncode, status)
         return found
 
     def test_texts_of_cells(self):
@@ -40,6 +41,12 @@ class Terminal(ProgramTest):
         self.assertEqual(self.at_terminal(["run"], lines(*given)), lines(*replies, *(f"val {text}" for text in SHOWN)))
         table = "".join(f"{text}\n" for text in GIVEN).encode()
         self.assertEqual(self.at_terminal(["table"], table), lines(*SHOWN))
+
+    def test_hints(self):
+        """What somebody else's script or table has, repeated by a hint."""
+        given, hint = "=\u009b31m".encode() + b"\n", b"a formula has no \\u{9b}"
+        self.assertIn(hint, self.at_terminal(["run", "--explain"], b"set A1 " + given, "stderr"))
+        self.assertIn(hint, self.at_terminal(["table", "--explain"], given, "stderr", 3))
 
     def test_replies_of_a_peer(self):
         peer = FakePeer(in_turn(HOSTILE))

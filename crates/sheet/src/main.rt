@@ -54,7 +54,7 @@ use ps_words::{
 };
 use std::fs::File;
 use std::io;
-use std::io::{IsTerminal, PipeReader, Stdout, Write, pipe};
+use std::io::{IsTerminal, PipeReader, Stderr, Stdout, Write, pipe};
 use std::marker::Brand;
 use std::net::{Net, TcpListener, TcpStream};
 use std::os::fd::{AsRawFd, RawFd};
@@ -336,6 +336,14 @@ fn shown_output(rt: &HostRuntime) -> ShownOutput<Stdout> {
     ShownOutput::new(stdout, is_terminal)
 }
 
+/// Returns standard error for hints, which repeat what others typed or sent: with control characters as text if it is a
+/// terminal.
+fn shown_error(rt: &HostRuntime) -> ShownOutput<Stderr> {
+    let stderr = rt.stderr();
+    let is_terminal = stderr.is_terminal();
+    ShownOutput::new(stderr, is_terminal)
+}
+
 /// Returns what the commands work with: these threads, and the memory of the program.
 fn resources_of<'a, R>(rt: &HostRuntime, threads: &'a R) -> Resources<'a, R> {
     Resources {
@@ -362,7 +370,7 @@ fn run_lines<R: Threads + Sync, I: Ledger, O: Ledger, M: Ledger>(
 {
     let mut source = Reading::<_, I>::new(rt.reader(), counts.input);
     let mut sink = console::<O>(rt, counts.output)?;
-    let told = is_explained(rt, options.explain).then_some(rt.stderr());
+    let told = is_explained(rt, options.explain).then_some(shown_error(rt));
     let mut observer = Observer::new(rt.alloc(), told);
     let mut meter = Meter::<M>::new(counts.evaluations);
     let done = answer_lines(
@@ -410,11 +418,11 @@ fn run_kept<R: Files<File = File> + Threads + Sync, I: Ledger, O: Ledger, H: Led
             return Err(fault);
         }
     };
-    let warner = tell_opened(rt.alloc(), path, &sheet, rt.stderr());
+    let warner = tell_opened(rt.alloc(), path, &sheet, shown_error(rt));
     let mut source = Reading::<_, I>::new(rt.reader(), counts.input);
     let writing = Writing::<_, O>::new(shown_output(rt), counts.output);
     let mut sink = HeldOutput::<_, H>::new(rt.alloc(), writing, counts.held);
-    let told = is_explained(rt, options.explain).then_some(rt.stderr());
+    let told = is_explained(rt, options.explain).then_some(shown_error(rt));
     let mut observer = KeptObserver::new(Observer::new(rt.alloc(), told), warner);
     let done = answer_kept(
         resources,
@@ -486,7 +494,7 @@ fn talk_lines<R: Net<Stream = TcpStream>, I: Ledger, O: Ledger>(
 {
     let source = Reading::<_, I>::new(rt.reader(), counts.input);
     let mut sink = console::<O>(rt, counts.output)?;
-    let told = is_explained(rt, options.explain).then_some(rt.stderr());
+    let told = is_explained(rt, options.explain).then_some(shown_error(rt));
     let mut observer = Observer::new(rt.alloc(), told);
     talk_on(ports, rt.alloc(), options, source, &mut sink, &mut observer)
 }
@@ -517,7 +525,7 @@ fn put_table<R: Threads + Sync, I: Ledger, O: Ledger, M: Ledger>(
     );
     meter.end();
     if let Some(text) = observer.into_out() {
-        let _ = rt.stderr().write_all(&text);
+        let _ = shown_error(rt).write_all(&text);
     }
     done
 }

@@ -1,4 +1,4 @@
-//! Standard output whose control characters can't change a terminal's state.
+//! Standard output and error whose control characters can't change a terminal's state.
 ghost use Rattle.std.specs.Io.{WritesAtMost};
 ghost use Rattle.std.specs.Prelude.{◌≤◌, IfSome, length};
 
