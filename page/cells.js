@@ -88,7 +88,7 @@ async function lookAtRanges(area) {
     }
   const names = [...new Set(texts)];
   passedOver = names.length ? 'without ' + (names.length > 4 ? several(names.length, 'text') : names.join(', ')) +
-    (names.length > 1 ? ', which only look like numbers' : ', which only looks like a number') : '';
+    ', which only look' + (names.length > 1 ? ' like numbers' : 's like a number') : '';
   [passedOf, passedAt] = [entry, clock()];
 }
 async function look() {

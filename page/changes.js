@@ -24,7 +24,7 @@ async function setCell(step, text) {
   const sent = outcome(`set ${nameOf(step.cell)} ${toEntry(text)}`, text, step);
   if (isCounter(text)) step.value = (await ask('get ' + nameOf(step.cell)).catch(() => ['']))[0].slice(4);
   const why = await sent;
-  step.after = isWhole(text) ? String(BigInt(text.replace('+', ''))) : !text || isCounter(text) ? text
+  step.after = isWhole(text) ? String(BigInt(text)) : !text || isCounter(text) ? text
     : text[0] === "'" ? text : "'" + text;
   if (!why && isFormula(text)) step.after = await formulaOf(step.version).catch(() => toEntry(text));
   return why;

@@ -60,7 +60,7 @@ function readFields(text, separator) {
     while (!isEnd(stop)) stop++;
     const field = isQuoted ? found[1].replace(/""/g, '"') : text.slice(at, stop);
     breaks += (field.match(/\r\n|[\r\n]/g) || []).length;
-    rows[rows.length - 1].push(field.replace(/\r\n|[\t\r\n]/g, ' '));
+    rows.at(-1).push(field.replace(/\r\n|[\t\r\n]/g, ' '));
     if (stop >= end) break;
     if (text[stop] !== separator) rows.push([]);
     at = stop + (text[stop] === '\r' && text[stop + 1] === '\n' ? 2 : 1);
@@ -119,11 +119,11 @@ on(document, 'paste', event => {
   afterMove(() => { if (editing) insert(text); else paste(text, form); });
 });
 function paste(text, form) {
-  const isLast = text === lastText, from = cutArea, range = selected();
+  const copy = readCopy(form), from = cutArea, range = selected();
   // (a clipboard may drop the second form)
-  const copy = readCopy(form || isLast && lastCopy);
+  const isCut = from && (form ? form === lastCopy : text === lastText);
   dropCut();
-  if (!copy) pasteText(text);
-  else if (from && isLast) moveCut(from, [range.left, range.top]);
-  else putMany(repeated(copy, range));
+  if (isCut) moveCut(from, [range.left, range.top]);
+  else if (copy) putMany(repeated(copy, range));
+  else pasteText(text);
 }

@@ -20,14 +20,22 @@ async function saveCsv(word) {
 }
 /** The separator that the first line of a table has most often. */
 function separatorOf(text) {
-  const first = text.slice(0, (text + '\n').indexOf('\n'));
+  const [first] = text.split('\n', 1);
   return [',', ';', '\t'].reduce((a, b) => first.split(b).length > first.split(a).length ? b : a);
+}
+/** The text of a file, and its encoding. */
+function decoded(bytes, encoding = 'UTF-8') {
+  try {
+    return [new TextDecoder(encoding, { fatal: true }).decode(bytes), encoding];
+  } catch {
+    return decoded(bytes, 'windows-1252');
+  }
 }
 /** Takes in a file: it tells first what would change, and then what was refused. */
 async function openCsv(file) {
   if (file.size > LARGEST_FILE) { tell('The file is too large: at most 4 MB are taken in.'); return; }
-  const at = current;
-  const text = new TextDecoder().decode(await file.arrayBuffer()), [rows, breaks] = readFields(text, separatorOf(text));
+  const at = current, [text, encoding] = decoded(await file.arrayBuffer());
+  const [rows, breaks] = readFields(text, separatorOf(text));
   const wanted = placed(rows, at), inside = wanted.filter(([cell]) => isInGrid(cell));
   const entries = await readArea('entries', areaAround(inside.map(([cell]) => cell))).catch(() => null);
   if (!entries) { tell(NO_LINK); return; }
@@ -37,12 +45,14 @@ async function openCsv(file) {
   const size = `${several(rows.length, 'row')} and ${several(max(...rows.map(row => row.length)), 'column')}`;
   const beyond = wanted.length - inside.length;
   const what = `${file.name}: ${size}, from ${nameOf(at)} on. ${several(changed.length, 'cell')} would change, ` +
-    `${filled.length} of them hold something now.` + (beyond ? ` ${several(beyond, 'cell')} beyond the sheet.` : '');
+    `${filled.length} of them hold something now.` + (beyond ? ` ${several(beyond, 'cell')} beyond the sheet.` : '') +
+    ` Read as ${encoding}.`;
   const due = wanted.filter(each => !isInGrid(each[0]) || isNew(each));
   if (await question(what, ['Take in', 'Cancel']) === 0) await putMany(due, breaks);
 }
 $('file').onchange = event => {
-  if (event.target.files[0]) openCsv(event.target.files[0]);
+  const [file] = event.target.files;
+  if (file) openCsv(file);
   event.target.value = '';
 };
 // Wherever a file is dropped, it is taken in, since a browser would go away from the page to it. A text goes into a
@@ -56,10 +66,9 @@ for (const kind of ['dragover', 'drop'])
   });
 /** Lays out the used part on paper, as a plain table. */
 async function layOutPaper() {
-  const area = await usedArea(), paper = $('paper');
-  paper.textContent = '';
-  if (!area) return;
+  const area = await usedArea() || boxOf([0, 0], [0, 0]), paper = $('paper');
   const [entries, values] = await readBoth(area);
+  paper.textContent = '';
   const table = made('table', '', paper);
   for (const row of rowsOf(area, cell => cell)) {
     const line = made('tr', '', table);

@@ -11,18 +11,13 @@ const fillArea = (source, area) => putMany(async () => {
   }
   return wanted;
 });
-/** Fills down from the first row of what is selected, or from the row above it. */
-function fillDown() {
-  const area = selected(), isOne = area.top === area.bottom;
-  const whole = isOne ? { ...area, top: max(0, area.top - 1) } : area;
-  return fillArea({ ...whole, bottom: whole.top }, whole);
+/** Fills what is selected from its first row or column, or a single one from that before it. */
+function fillFrom(first, last) {
+  const area = selected();
+  if (area[first] === area[last]) area[first] = max(0, area[first] - 1);
+  fillArea({ ...area, [last]: area[first] }, area);
 }
-/** Fills to the right from the first column of what is selected, or from the column before it. */
-function fillRight() {
-  const area = selected(), isOne = area.left === area.right;
-  const whole = isOne ? { ...area, left: max(0, area.left - 1) } : area;
-  return fillArea({ ...whole, right: whole.left }, whole);
-}
+const fillDown = () => fillFrom('top', 'bottom'), fillRight = () => fillFrom('left', 'right');
 /** Where a drag of the handle goes: further down or to the right, whichever is more. */
 function fillTo(source, [column, row]) {
   const down = row - source.bottom, right = column - source.right;

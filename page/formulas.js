@@ -24,9 +24,10 @@ function shifted(text, columns, rows) {
   });
   return isLost ? null : moved;
 }
-/** The areas of the ranges in a formula. */
-const rangesOf = entry => [...short(entry).matchAll(PLACES)].map(([place]) => place.includes(':') && readRange(place))
-  .filter(Boolean);
+// A range in an entry, or a reference that stands alone as an argument of a function that takes ranges, too.
+const ITEM = /\[\.\w+:\.\w+\]|(?<=(SUM|MIN|MAX|COUNT)\(((\([^()]*\)|[^()])*;)?)\[\.\w+\](?=[;)])/g;
+/** The areas whose texts a formula passes over. */
+const rangesOf = entry => [...entry.matchAll(ITEM)].map(([place]) => readRange(short(place)));
 
 // The formulas that were typed here with a $, which the sheet doesn't keep: cell by cell the typed text, and the entry
 // that it became. While the cell holds that entry, the text with its $ is shown and copied.

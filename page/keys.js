@@ -1,5 +1,5 @@
 // The keys of the grid. A move that has to ask the server holds up the keys, clicks and pastes after it, so that none
-// goes elsewhere.
+// goes elsewhere. So does a sign that is typed before the page knows whether its cell has become a counter.
 let isMoving = false, heldUp = [];
 const afterMove = act => { if (isMoving) heldUp.push(act); else act(); };
 const isControl = event => event.ctrlKey || event.metaKey;
@@ -32,11 +32,15 @@ async function endFrom([column, row], isWhole) {
   const area = areaAround(keys.map(cellAt));
   return keys.length ? [area.right, isWhole ? area.bottom : row] : isWhole ? [0, 0] : [0, row];
 }
-async function moveFar(finding, isExtending) {
+function moveFar(finding, isExtending) {
   askMove();
+  holdUp(finding.then(cell => moveLate(cell, isExtending)));
+}
+/** Holds up keys, clicks and pastes until this is done. */
+async function holdUp(awaited) {
   isMoving = true;
   try {
-    moveLate(await finding, isExtending);
+    await awaited;
   } catch {
     tell(NO_LINK);
     heldUp = [];
@@ -62,20 +66,19 @@ function controlKey(event) {
   const arrow = ARROWS[event.key], from = event.shiftKey ? corner : current;
   const key = event.shiftKey ? event.key.toUpperCase() : event.key.toLowerCase();
   if (arrow) moveFar(edgeFrom(from, arrow), event.shiftKey);
-  else if (event.key === 'End') moveFar(endFrom(from, true), event.shiftKey);
-  else if (event.key === 'Home') moveTo([0, 0], event.shiftKey);
+  else if (event.key === 'End' || event.key === 'Home') plainKey(event);
   else if (event.key === ' ') select([current[0], 0], [corner[0], ROWS - 1]);
   else if (COMMANDS[key] && event.key.length === 1) COMMANDS[key]();
   else return false;
   return true;
 }
 function plainKey(event) {
-  const key = event.key, to = target(event), isTally = heldAt(current) === '@tally';
+  const key = event.key, to = target(event), isSign = key === '+' || key === '-';
   if (to) {
     if (key !== 'Tab') home = null; else if (home === null) home = current[0];
     moveTo(to, event.shiftKey && key !== 'Tab');
   }
-  else if (key === 'End') moveFar(endFrom(event.shiftKey ? corner : current, false), event.shiftKey);
+  else if (key === 'End') moveFar(endFrom(event.shiftKey ? corner : current, isControl(event)), event.shiftKey);
   else if (key === 'Enter' && event.shiftKey) moveTo([current[0], current[1] - 1]);
   else if (key === 'Enter' || key === 'F2') begin();
   else if (key === 'Delete' || key === 'Backspace') clearArea(selected());
@@ -83,9 +86,14 @@ function plainKey(event) {
     if (lastAnswer()) lastAnswer().click(); else { hideOptions(); tell(''); dropCut(); select(current); }
   }
   else if (key === 'F1' || key === '?') openHelp();
-  else if (key === 'F6') (lastAnswer() || (event.shiftKey ? $('help-button') : $('name'))).focus();
+  else if (key === 'F6')
+    (lastAnswer() || $(event.shiftKey ? 'help-button' : $('examples').hidden ? 'name' : 'vote')).focus();
   else if (key === ' ' && event.shiftKey) select([0, current[1]], [COLUMNS - 1, corner[1]]);
-  else if (isTally && (key === '+' || key === '-')) step(key === '+' ? 'add' : 'sub', current, 1);
+  else if (isSign && heldAt(current) === '@tally') step(key === '+' ? 'add' : 'sub', current, 1);
+  else if (isSign && acting && link.isHeard && !lastAnswer()) {
+    heldUp.unshift(() => replay(event));
+    holdUp(new Promise(done => setTimeout(done, 20)));
+  }
   else if (key.length === 1) edit(key, 'cell', true);
   else return false;
   return true;
@@ -117,8 +125,12 @@ on(document, 'keydown', event => {
   }
   if (isControl(event) && /^[fp]$/.test(key)) { COMMANDS[key](); claim(event); }
   if (!/^(F6|Escape)$/.test(key)) return;
-  if ($('bar').contains(target) && !editing) grid.focus();
-  if ($('question').contains(target)) { if (key === 'F6') focusAgain(); else lastAnswer().click(); }
+  const isNext = key === 'F6', isIn = id => $(id).contains(target);
+  // (the browser has a place of its own for F6)
+  if (isNext) claim(event);
+  if (isIn('bar') && !editing) grid.focus();
+  if (isIn('examples')) (isNext ? $('name') : grid).focus();
+  if (isIn('question')) { if (isNext) focusAgain(); else lastAnswer().click(); }
 });
 on($('name'), 'focus', event => {
   if (editing) (hasEnded() ? event.target : field()).focus(); else event.target.select();

@@ -75,7 +75,8 @@ async function nameOptions(text) {
   }
   hideOptions();
   await putMany([[at, entry]]);
-  tell(`${nameOf(at)} has the note "${told}" now, which gives the options their names.`, at, false, true);
+  if (heldAt(at).endsWith(told))
+    tell(`${nameOf(at)} has the note "${told}" now, which gives the options their names.`, at, false, true);
 }
 /** Puts the area that is pointed at into the field of the names. */
 function pickNames(cell, from) {

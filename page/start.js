@@ -42,6 +42,8 @@ function redraw() {
 }
 on(grid, 'scroll', redraw);
 on(window, 'resize', redraw);
+// (a print by the browser's own menu has nothing laid out, and says so)
+on(window, 'afterprint', () => { $('paper').textContent = ''; });
 link.onLink = () => {
   document.body.classList.toggle('lost', !link.isHeard);
   $('link').textContent = link.words;
@@ -56,7 +58,8 @@ function showGrid() {
   wasHeard = wasHeard || link.isHeard;
   document.body.classList.toggle('unseen', !wasHeard && (!isDue || link.isUp || link.isFull));
 }
-Object.assign($('corner').style, { width: SIDE + 'px', height: HEIGHT + 'px', marginBottom: -HEIGHT + 'px' });
+place($('corner'), 0, 0, SIDE, HEIGHT);
+$('corner').style.marginBottom = -HEIGHT + 'px';
 layOut();
 drawButtons();
 drawLine();

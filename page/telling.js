@@ -9,7 +9,7 @@ function tell(text, cell = current, stays = false, isNote = false) {
   clearTimeout(telling);
   if (!text) return;
   beside(box, element, true);
-  if (!stays) telling = setTimeout(() => tell(''), 8000);
+  if (!stays) telling = setTimeout(() => { tell(''); tellMeanwhile(); }, 8000);
 }
 const boundsOf = element => element.getBoundingClientRect();
 /**

@@ -29,8 +29,7 @@ const inWords = reply => REFUSALS[reply.split(' ')[1]] || 'Refused: ' + reply.sl
 const several = (count, one, more = one + 's') => count + ' ' + (count === 1 ? one : more);
 
 /** Whether an entry is a whole number of 64 bits. */
-const isWhole = text => /^[+-]?\d+$/.test(text) && BigInt.asIntN(64, BigInt(text.replace('+', ''))) ===
-  BigInt(text.replace('+', ''));
+const isWhole = text => /^[+-]?\d+$/.test(text) && BigInt.asIntN(64, text) === BigInt(text);
 const isUnderstood = text => isWhole(text) || /^(=|of:=|@tally$|@choice$)/.test(text);
 const CURRENCY = '[$\u20ac\u00a3\u00a5\u00a2\u20b9]';
 const HABITS = [

@@ -55,6 +55,20 @@ class Copies(BrowserTest):
         second.key("v", CONTROL)
         self.assert_held("entry C4", "entry =[.B4]*2")
 
+    def test_an_equal_text_from_elsewhere_is_a_text(self):
+        page = self.page()
+        self.fill("set A1 5", "set B1 =[.A1]*2")
+        self.go(page, "B1")
+        page.wait_for("shownAt([1, 0])", "10")
+        page.key("c", CONTROL)
+        self.go(page, "C5")
+        self.paste(page, "10")
+        self.assert_held("entry C5", "entry 10")
+        # .. but the copy itself is still a formula
+        self.go(page, "D5")
+        page.key("v", CONTROL)
+        self.assert_held("entry D5", "entry =[.C5]*2")
+
 
 class Cuts(BrowserTest):
     def test_a_cut_moves(self):
@@ -110,6 +124,18 @@ class Cuts(BrowserTest):
         self.assert_held("get A5", "val Pizza")
         self.assertIn("1 counter or set stayed", self.told(page))
         self.assertEqual((self.client.ask("get B1"), self.client.ask("get A1")), ("val 3", "val "))
+
+    def test_a_copy_of_another_page_with_the_same_text_moves_nothing(self):
+        first, second = self.page(), self.page()
+        self.fill("set A1 5", "set B1 =[.A1]")
+        for page, where, key in ((first, "A1", "x"), (second, "B1", "c")):
+            self.go(page, where)
+            page.wait_for("shownAt([1, 0])", "5")
+            page.key(key, CONTROL)
+        self.go(first, "D1")
+        first.key("v", CONTROL)
+        self.assert_held("entry D1", "entry =[.C1]")
+        self.assertEqual(self.client.ask("entry A1"), "entry 5")
 
 
 class Fields(BrowserTest):

@@ -7,9 +7,9 @@ from browser_page import BrowserTest
 
 class Tables(BrowserTest):
     def open(self, page, text, name="plan.csv"):
-        """Chooses a file of this text."""
+        """Chooses a file of this text, or of these bytes."""
         path = self.folder() / name
-        path.write_bytes(text.encode())
+        path.write_bytes(text if isinstance(text, bytes) else text.encode())
         document = page.call("DOM.getDocument")["root"]["nodeId"]
         chooser = page.call("DOM.querySelector", nodeId=document, selector="#file")["nodeId"]
         page.call("DOM.setFileInputFiles", nodeId=chooser, files=[str(path)])
@@ -70,6 +70,15 @@ class Tables(BrowserTest):
         self.answer(page, "Take in")
         self.assert_held("entry B2", "entry =SUM([.B1:.B1])")
         self.assertEqual(self.client.ask("entry B1"), "entry @tally")
+
+    def test_other_encodings_come_in(self):
+        page = self.page()
+        for row, (encoding, name) in enumerate((("windows-1252", "windows-1252"), ("utf-8-sig", "UTF-8")), 1):
+            self.go(page, f"A{row}")
+            self.open(page, "M\u00fcller;5 \u20ac\n".encode(encoding), f"{encoding}.csv")
+            self.assertTrue(self.answer(page, "Take in").endswith(f" Read as {name}."))
+            self.assert_held(f"get A{row}", "val M\u00fcller")
+            self.assert_held(f"get B{row}", "val 5 \u20ac")
 
     def test_what_went_out_comes_in(self):
         page = self.page()

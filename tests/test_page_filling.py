@@ -34,6 +34,18 @@ class Fills(BrowserTest):
         page.key("d", CONTROL)
         self.assert_held("entry A3", "entry =[.A2]*2")
 
+    def test_many_lines_are_under_way_at_a_time(self):
+        page = self.page()
+        self.fill("set A1 7")
+        page.value("""window.most = 0, WebSocket.prototype.send = (old => function (text) {
+            most = Math.max(most, underWay.length);
+            old.call(this, text);
+        })(WebSocket.prototype.send), 1""")
+        self.go(page, "A1:A500")
+        page.key("d", CONTROL)
+        self.assert_held("get A500", "val 7")
+        self.assertGreater(page.value("most"), 100)
+
     def test_the_handle_is_dragged(self):
         page = self.page()
         self.fill("set A1 1", "set A2 2", "set B1 =[.A1]", "set B2 x")

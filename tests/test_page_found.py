@@ -17,13 +17,18 @@ CONTRAST = """(() => {
   const backOf = element => { for (let e = element; e; e = e.parentElement) {
     const color = rgb(getComputedStyle(e).backgroundColor);
     if (color[3] === 255) return color; } return rgb('Canvas'); };
+  // (what has an opacity, and all in it, is mixed with what lies behind it)
+  const mixed = (color, element) => { for (let e = element; e; e = e.parentElement) {
+    const share = +getComputedStyle(e).opacity, behind = share < 1 && backOf(e.parentElement);
+    if (behind) color = color.map((part, i) => part * share + behind[i] * (1 - share)); } return color; };
   const low = [];
   for (const element of document.querySelectorAll('body *')) {
     const own = [...element.childNodes].some(node => node.nodeType === 3 && node.data.trim());
     if (!own && element.tagName !== 'INPUT' || element.disabled || !element.checkVisibility()) continue;
     if (element.tagName === 'SCRIPT' || element.tagName === 'STYLE') continue;
     const shown = element.placeholder && !element.value ? '::placeholder' : null;
-    const [a, b] = [light(rgb(getComputedStyle(element, shown).color)), light(backOf(element))].sort((x, y) => y - x);
+    const colors = [rgb(getComputedStyle(element, shown).color), backOf(element)];
+    const [a, b] = colors.map(color => light(mixed(color, element))).sort((x, y) => y - x);
     const ratio = (a + 0.05) / (b + 0.05);
     if (ratio < 4.5) low.push([element.tagName, element.id, element.className, element.textContent, ratio].join(' '));
   }
@@ -120,6 +125,42 @@ class KeysAlone(FoundTest):
         page.key("F6")
         page.wait_for("document.activeElement.id", "grid")
 
+    def example(self, *keys):
+        """Takes an example of an empty sheet by F6, these keys and Enter."""
+        page = self.page()
+        page.wait_for("document.getElementById('examples').hidden", False)
+        for key in ("F6", *keys, "Enter"):
+            page.key(key)
+        page.wait_for("document.activeElement.id", "grid")
+        page.wait_for("document.getElementById('examples').hidden")
+        return page
+
+    def test_the_vote_by_keys(self):
+        page = self.example()
+        self.assert_held("entry B7", "entry =MAX([.B2:.B4])")
+        # without examples F6 leads to the bar
+        page.key("F6")
+        page.wait_for("document.activeElement.id", "name")
+
+    def test_the_plan_by_keys(self):
+        self.example("Tab")
+        self.assert_held("entry D6", "entry =SUM([.D2:.D4])")
+
+    def test_f6_leads_from_the_examples_to_the_bar_and_back(self):
+        page = self.page()
+        page.wait_for("document.getElementById('examples').hidden", False)
+        for key, reached in (("F6", "vote"), ("F6", "name"), ("F6", "grid"), ("F6", "vote"), ("Escape", "grid")):
+            page.key(key)
+            page.wait_for("document.activeElement.id", reached)
+
+    def test_f6_is_the_page_s_own(self):
+        """A browser would lead it on, to its own bar."""
+        page = self.filled()
+        page.value("window.taken = [], addEventListener('keydown', event => taken.push(event.defaultPrevented)), 1")
+        for _ in range(2):
+            page.key("F6")
+        self.assertEqual(page.value("taken"), [True, True])
+
     def test_the_menu_by_keys(self):
         page = self.filled()
         page.key("F6", SHIFT)
@@ -211,6 +252,28 @@ class Screens(FoundTest):
         page.wait_for("document.getElementById('help').open")
         self.assertEqual(page.value(CONTRAST), [])
 
+    def test_contrast_of_a_page_whose_connection_is_lost(self):
+        page = self.filled()
+        looks = {}
+        for state, words in (("connected", "connected"), ("lost", "connection lost, trying again")):
+            if state == "lost":
+                page.value("connect = () => {}, socket.close()")
+            page.wait_for("document.getElementById('link').textContent", words)
+            for scheme in ("light", "dark"):
+                features = {"prefers-color-scheme": scheme, "prefers-reduced-motion": "reduce"}
+                page.call("Emulation.setEmulatedMedia",
+                          features=[{"name": name, "value": value} for name, value in features.items()])
+                page.wait_for("matchMedia('(prefers-color-scheme: %s)').matches" % scheme)
+                self.assertEqual(page.value(CONTRAST), [], f"{state}, {scheme}")
+                looks[state, scheme] = page.value("['bar', 'corner', 'link'].map(id =>"
+                                                  " getComputedStyle(document.getElementById(id).closest('#bar, #corner,"
+                                                  " footer')).backgroundColor)")
+                self.keep_picture(page, f"{state}-{scheme}")
+        # the loss is seen above, beside and below the cells
+        for scheme in ("light", "dark"):
+            for before, after in zip(looks["connected", scheme], looks["lost", scheme], strict=True):
+                self.assertNotEqual(before, after, scheme)
+
 
 class Help(FoundTest):
     def test_a_question_mark_opens_it(self):
@@ -231,6 +294,28 @@ class Help(FoundTest):
         page.wait_for("document.activeElement.id", "grid")
         page.click(*page.middle("document.getElementById('help-button')"))
         page.wait_for("document.getElementById('help').open")
+
+    def test_all_of_it_is_reached_on_small_screens(self):
+        page = self.filled()
+        page.key("?")
+        page.wait_for("document.getElementById('help').open")
+        for width, height in ((1200, 720), (1024, 600), (1000, 700), (1100, 620), (960, 600), (960, 576), (900, 700)):
+            with self.subTest(width=width, height=height):
+                page.call("Emulation.setDeviceMetricsOverride", width=width, height=height, deviceScaleFactor=1,
+                          mobile=False)
+                page.wait_for("[innerWidth, innerHeight].join()", f"{width},{height}")
+                beyond = page.value("(box => { const { left, right } = box.getBoundingClientRect();"
+                                    " return [...box.querySelectorAll('p, dt, dd, h2')].filter(each => { const at ="
+                                    " each.getBoundingClientRect(); return at.left < left || at.right > right; })"
+                                    ".map(each => each.textContent).concat(box.scrollWidth - box.clientWidth); })"
+                                    "(document.getElementById('help'))")
+                self.assertEqual(beyond, [0])
+                # the wheel leads to the limits
+                page.value("document.getElementById('help').scrollTop = 0")
+                page.mouse("mouseWheel", *page.middle("document.getElementById('help')"), deltaX=0, deltaY=5000)
+                page.wait_for("(box => [...box.querySelectorAll('p')].pop().getBoundingClientRect().bottom <="
+                              " box.getBoundingClientRect().bottom)(document.getElementById('help'))")
+                self.keep_picture(page, f"help-{width}-{height}")
 
     def test_its_formulas_are_formulas(self):
         """Each function has an example of its own."""

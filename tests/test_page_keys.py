@@ -4,6 +4,17 @@ import unittest
 from browser import CONTROL, SHIFT
 from browser_page import BrowserTest
 
+# How many rows are in view as a whole.
+WHOLE_ROWS = """(end => [...document.querySelectorAll('.row')].filter(row =>
+  row.getBoundingClientRect().bottom <= end).length)(grid.getBoundingClientRect().top + grid.clientHeight)"""
+# Has each question reach the server some time later. They stay in order.
+LATE = """ask = (old => async text => {
+  await new Promise(done => setTimeout(done, 150));
+  return old(text);
+})(ask), 1"""
+# What is printed where nothing is laid out.
+HINT = "getComputedStyle(document.getElementById('paper'), '::before').content"
+
 
 class Moves(BrowserTest):
     def assert_at(self, page, cell):
@@ -81,13 +92,129 @@ class Simple(BrowserTest):
         page = self.page()
         for key, modifiers, cell in (
             ("ArrowRight", 0, "B1"), ("ArrowDown", 0, "B2"), ("ArrowLeft", 0, "A2"), ("ArrowUp", 0, "A1"),
-            ("ArrowUp", 0, "A1"), ("Tab", 0, "B1"), ("Tab", SHIFT, "A1"), ("PageDown", 0, None), ("PageUp", 0, "A1"),
-            ("Tab", 0, "B1"), ("Home", 0, "A1"), ("ArrowDown", 0, "A2"), ("Enter", SHIFT, "A1"), ("ArrowDown", 0, "A2"),
-            ("ArrowRight", 0, "B2"), ("Home", CONTROL, "A1"),
+            ("ArrowUp", 0, "A1"), ("Tab", 0, "B1"), ("Tab", SHIFT, "A1"), ("Tab", 0, "B1"), ("Home", 0, "A1"),
+            ("ArrowDown", 0, "A2"), ("Enter", SHIFT, "A1"), ("ArrowDown", 0, "A2"), ("ArrowRight", 0, "B2"),
+            ("Home", CONTROL, "A1"),
         ):
             page.key(key, modifiers)
-            if cell is not None:
-                self.assertEqual(self.current(page), cell)
+            self.assertEqual(self.current(page), cell)
+
+    def test_page_keys(self):
+        page = self.page()
+        # one row of what was in view stays there
+        step = page.value(WHOLE_ROWS) - 1
+        self.assertGreater(step, 9)
+        first, second, third = "A1", f"A{1 + step}", f"A{1 + 2 * step}"
+        for key, modifiers, cell in (
+            ("PageDown", 0, second), ("PageDown", 0, third), ("PageUp", 0, second),
+            ("PageDown", SHIFT, f"{second}:{third}"), ("PageDown", SHIFT, f"{second}:A{1 + 3 * step}"),
+            ("PageUp", SHIFT, f"{second}:{third}"), ("PageUp", SHIFT, second), ("PageUp", SHIFT, f"{first}:{second}"),
+            ("PageUp", SHIFT, f"{first}:{second}"), ("PageUp", 0, first), ("PageDown", SHIFT, f"{first}:{second}"),
+        ):
+            page.key(key, modifiers)
+            self.assertEqual(self.current(page), cell)
+
+
+class Signs(BrowserTest):
+    def late(self):
+        """A page whose questions reach the server late."""
+        page = self.page()
+        page.value(LATE)
+        return page
+
+    def test_signs_count_at_once_after_the_vote(self):
+        page = self.late()
+        # one after another without a pause
+        page.click(*self.button(page, "vote"))
+        page.key("ArrowRight")
+        page.key("ArrowDown")
+        page.type("++-+")
+        page.key("ArrowDown")
+        page.type("+")
+        page.key("ArrowDown")
+        page.type("-")
+        self.assert_held("get B4", "val -1")
+        self.assertEqual(self.entries("A1:B4"), ["'Friday lunch,'Votes", "'Pizza,@tally", "'Pasta,@tally",
+                                                 "'Salad,@tally"])
+        self.assertEqual([self.client.ask(f"get B{row}") for row in (2, 3, 4)], ["val 2", "val 1", "val -1"])
+        self.assertEqual(page.value("[editing, nameOf(current)]"), [None, "B4"])
+
+    def test_a_sign_counts_after_the_button_and_after_an_entry(self):
+        page = self.late()
+        page.click(*page.middle("document.getElementById('tally')"))
+        page.type("++")
+        page.key("ArrowDown")
+        page.type("@tally")
+        page.key("Enter")
+        page.key("ArrowUp")
+        page.type("-")
+        self.assert_held("get A2", "val -1")
+        self.assertEqual(self.client.ask("get A1"), "val 2")
+
+    def test_numbers_with_signs_are_typed_one_after_another(self):
+        page = self.late()
+        for text in ("5", "-7", "+9", "-x"):
+            page.type(text)
+            page.key("Enter")
+        self.assert_held("get A4", "val -x")
+        self.assertEqual(self.entries("A1:A4"), ["5", "-7", "9", "'-x"])
+        self.assertEqual(page.value("[editing, nameOf(current)]"), [None, "A5"])
+
+    def test_a_sign_waits_for_no_answer(self):
+        page = self.page()
+        self.fill("set A1 @tally", "add A1 3")
+        page.wait_for("shownAt([0, 0])", "3")
+        page.value(LATE)
+        page.key("Delete")
+        page.key("ArrowRight")
+        # (the question comes while the sign is held up)
+        page.type("-5")
+        page.wait_for("document.getElementById('editor').value", "-5")
+        page.wait_for("!!document.querySelector('#question[open]')")
+        self.answer(page, "Leave")
+        page.key("Enter")
+        self.assert_held("get B1", "val -5")
+        self.assertEqual(self.client.ask("get A1"), "val 3")
+
+
+class Prints(BrowserTest):
+    def printing(self):
+        """A page with two cells, as it prints."""
+        page = self.page()
+        self.fill("set A1 Name", "set B2 5")
+        page.wait_for("shownAt([1, 1])", "5")
+        page.call("Emulation.setEmulatedMedia", media="print")
+        return page
+
+    def test_control_p(self):
+        page = self.printing()
+        page.value("window.printed = [], window.print = () => printed.push(paper.innerText), 1")
+        # (the key has the grid, or what one finds by)
+        for focus in ("grid.focus()", "openFind()"):
+            page.value(focus)
+            page.key("p", CONTROL)
+            page.wait_for("printed.length", 1)
+            self.assertEqual(page.value("printed.pop()").split(), ["Name", "5"])
+            self.assertEqual(page.value(HINT), "none")
+            page.call("Page.printToPDF")
+            page.wait_for("paper.childNodes.length", 0)
+
+    def test_a_print_by_the_menu_of_the_browser_says_what_to_press(self):
+        page = self.printing()
+        self.assertIn("Ctrl+P", page.value(HINT))
+        page.value("layOutPaper()")
+        self.assertEqual(page.value(HINT), "none")
+        # what was laid out once isn't there any more after a change
+        page.call("Page.printToPDF")
+        self.fill("set A1 Other")
+        page.wait_for("shownAt([0, 0])", "Other")
+        self.assertEqual(page.value("paper.textContent"), "")
+        self.assertIn("Ctrl+P", page.value(HINT))
+
+    def test_a_sheet_without_anything_is_printed(self):
+        page = self.page()
+        page.value("layOutPaper()")
+        self.assertEqual(page.value(HINT), "none")
 
 
 if __name__ == "__main__":

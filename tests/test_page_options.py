@@ -63,6 +63,22 @@ class Names(BrowserTest):
         marks = "document.querySelectorAll('#cell-' + keyOf(1, 1) + ' .mark')"
         page.wait_for(f"[...{marks}].map(mark => mark.textContent).join()", "Tue,Wednesday")
 
+    def test_a_head_without_room_for_the_note(self):
+        page = self.page()
+        head = "The days on which we could meet, and the days in reserve"
+        self.fill(f"set A1 {head}", "set A2 @choice", "set F1 Mon", "set G1 Tue")
+        page.wait_for("heldAt([0, 1])", "@choice")
+        self.go(page, "A2")
+        page.key("Enter")
+        page.wait_for("document.getElementById('options').hidden", False)
+        page.click(*page.middle("document.getElementById('naming')"))
+        page.type("f1:g1")
+        page.key("Enter")
+        page.wait_for("marks.size", 1)
+        page.wait_for("acting", 0)
+        self.assertIn("1 of 1 cell refused (A1): A text has at most 64 bytes", self.told(page))
+        self.assertEqual(self.client.ask("entry A1"), f"entry '{head}")
+
 
 if __name__ == "__main__":
     unittest.main()

@@ -1,9 +1,12 @@
-"""What a new user does on the page of `sheet serve` by `docs/USING.md`: a plan, a vote and a budget."""
+"""What a new user does on the page of `sheet serve` by `README.md` and `docs/USING.md`: a plan, a vote and a budget."""
+import re
 import unittest
 
 from browser import CONTROL
 from browser_page import BrowserTest
+from program import TOP
 
+README = (TOP / "README.md").read_text()
 
 # Cells of each kind, with two in a circle, a fault and a text that looks like a number.
 KINDS = {
@@ -133,6 +136,55 @@ class Tasks(BrowserTest):
         self.go(page, "D6")
         page.wait_for("document.getElementById('value').textContent", "= 140997")
         self.keep(page, "budget")
+
+
+class FirstSteps(BrowserTest):
+    """What `README.md` says to do, and nothing else. No key waits for what the page shows."""
+
+    def test_a_plan_is_overwritten_and_enter_opens_the_options(self):
+        self.assertIn('Click "A plan" or "A vote", and overwrite it; Enter opens a set\'s options', README)
+        page = self.page()
+        page.click(*self.button(page, "plan"))
+        page.key("ArrowDown")
+        page.type("Zoe")
+        page.key("Tab")
+        page.key("ArrowRight")
+        page.type("7")
+        page.key("Enter")
+        self.assert_held("entry C2", "entry 7")
+        page.wait_for("heldAt([1, 1])", "@choice")
+        page.click(*self.middle(page, 1, 1))
+        page.key("Enter")
+        page.wait_for("document.getElementById('options').hidden", False)
+        page.key(" ")
+        self.assert_held("get B2", "val {0}")
+        page.key("Escape")
+        self.assert_held("get D6", "val 7")
+        self.assertEqual(self.client.ask("get A2"), "val Zoe")
+        self.assert_shows(page, (3, 5), "7")
+
+    def test_a_vote_is_overwritten_and_plus_counts(self):
+        self.assertIn("+ adds one to a count", README)
+        page = self.page()
+        page.click(*self.button(page, "vote"))
+        page.key("ArrowDown")
+        page.type("Soup")
+        page.key("Tab")
+        page.type("++")
+        page.key("ArrowDown")
+        page.type("+")
+        self.assert_held("get B6", "val 3")
+        found = [self.client.ask(f"get {cell}") for cell in ("A2", "B2", "B3")]
+        self.assertEqual(found, ["val Soup", "val 2", "val 1"])
+        self.assert_shows(page, (1, 5), "3")
+
+    def test_the_budget_is_pasted(self):
+        budget = re.search(r"paste a budget(?:.*\n)+?\n((?:    .*\t.*\n)+)", README)[1]
+        page = self.page()
+        self.paste(page, re.sub("^    ", "", budget, flags=re.MULTILINE))
+        self.assert_held("get B3", "val 137000")
+        self.assertEqual(self.entries("A1:C4"), ["'Rent,95000,", "'Food,42000,", "'All,=SUM([.B1:.B2]),", ",,"])
+        self.assert_shows(page, (1, 2), "137000")
 
 
 if __name__ == "__main__":

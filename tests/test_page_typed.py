@@ -114,6 +114,22 @@ class Questions(TypedTest):
         self.assert_held("get A2", "val next")
         self.assert_rows("A1:A1", "'theirs")
 
+    def test_an_entry_that_comes_while_a_note_is_shown(self):
+        page = self.page()
+        # (a note is shown for a second)
+        page.value("(() => { const now = setTimeout;"
+                   " setTimeout = (call, wait, ...all) => now(call, wait / 8, ...all); })()")
+        page.value(HOLD)
+        self.put(page, "12.50")
+        page.type("mine")
+        page.value("letGo()")
+        self.assertIn("A1: 12.50 is kept as a text", self.told(page))
+        self.fill("set A2 theirs")
+        page.wait_for("document.getElementById('refusal').textContent",
+                      'Somebody has put "theirs" here meanwhile. Enter asks which stays.')
+        page.key("Enter")
+        self.answer(page, "Theirs")
+
     def test_a_click_at_it_takes_no_keys(self):
         page = self.disputed()
         page.type("ne")

@@ -71,6 +71,25 @@ class LooksLikeANumber(BrowserTest):
         self.fill("set C550 50")
         page.wait_for("document.getElementById('value').textContent", "= 50")
 
+    def test_a_reference_that_stands_alone_is_passed_over_too(self):
+        page = self.page()
+        self.fill("set A1 12.50", "set A2 10")
+        for typed, value in (("=SUM(A1,A2)", "= 10, without A1, which only looks like a number"),
+                             ("=2*MAX(ABS(A2),IF(A2,1,2),A1)", "= 20, without A1, which only looks like a number"),
+                             ("=COUNT(A2)+COUNT(A1:A2,A1)", "= 2, without A1, which only looks like a number"),
+                             # what isn't passed over makes a fault
+                             ("=SUM(A2)+IF(A1,1,2)", "= #VALUE!"), ("=SUM(A2,-A1)", "= #VALUE!"),
+                             ("=SUM(ABS(A1),A2)", "= #VALUE!")):
+            self.go(page, "C1")
+            page.type(typed)
+            page.key("Enter")
+            page.key("ArrowUp")
+            with self.subTest(typed):
+                page.wait_for("acting", 0)
+                page.wait_for("document.getElementById('value').textContent", value)
+                page.wait_for("passedOf", page.value("heldAt(current)"))
+                self.assertEqual(page.value("document.getElementById('value').textContent"), value)
+
     def test_refused_formulas_have_a_reason(self):
         page = self.page()
         for typed, reason in (("=1/2", "/ is written QUOTIENT(a;b)"), ("=AVERAGE(A1:A2)", "AVERAGE is no function"),
