@@ -35,7 +35,7 @@ use std::sync::ledger::Ledger;
 use std::thread::Threads;
 use std::time::{Clock, Duration};
 
-/// The title of the page: the one that was given, or the name of the kept file, or none.
+/// Returns the title of the page: the given one, or the name of the kept file, or an empty one.
 fn title_of<'a>(options: ServeOptions<'a>) -> &'a str
     ensures { IfSome options.entry.title (λ title. result.now ≡ title.now) }
 {

@@ -206,7 +206,7 @@ fn not_squashed(
     }
 }
 
-/// The replica that the first line of these bytes tells, and 1 where it tells none. Refused out of memory.
+/// Returns the replica that the first line of these bytes names, or 1 if it names none. Fails when out of memory.
 fn replica_told(alloc: Global, bytes: &[u8]) -> Result<u8, AllocError>
     ensures { IfOk result (λ replica. (1 ≤ replica) × (replica ≤ REPLICAS)) }
 {
