@@ -1,16 +1,21 @@
-"""The fenced blocks of the pages, commands with the text that each of them writes, and the sentences of prose."""
+"""The blocks of the pages, commands with the text that each of them writes, and the sentences of prose."""
 import re
 
 from program import TOP
 
-FENCED = re.compile(r"^```(\w*)\n(.*?)^```$", re.MULTILINE | re.DOTALL)
-# The greatest number of words of a sentence.
-SENTENCE = 35
+FENCED = re.compile(r"^```([^`\n]*)\n(.*?)^```$", re.MULTILINE | re.DOTALL)
+# A block by indentation, which begins after an empty line.
+INDENTED = re.compile(r"(?:\A|(?<=\n\n))(?:(?: {4}|\t).*(?:\n|\Z))+")
+# The greatest number of words of a sentence, and the marks that end one.
+SENTENCE, ENDS = 35, ".?!"
 # Turns that readers stumble over.
 TURNS = (
     "of which", "so it is", "(?:is|are|was) told", "what is there", "hands? on", "handed on",
-    "who (?:is|are|has|wants|comes|looks)", "as far as", "that of the one", "in the place of", "be it", "(?:is|are) lent",
-    "has come", "want of", "but for", "no other than", "growth of memory", "it is no matter", "looks? on", "of its own accord",
+    r"who (?:\w+ )?(?:is|are|was|were|has|have|had|wants|comes|looks)", "as far as", "that of (?:the one|those)",
+    "in the place of", "be (?:it|they)", "lent", "has come", "wants? of", "but for", "no other than",
+    "growths? of memory", "it is no matter", "look(?:s|ed|ing)? on", "of its own accord", "were told", "what are there",
+    "handing on", "onlookers?", "push lines", "turns that look strange", "wrong bod(?:y|ies)", "chairs?", "doors?",
+    "entrances?",
 )
 
 
@@ -36,25 +41,44 @@ def recipes(page, language):
     return pairs((TOP / page).read_text(), language)
 
 
-def indented(text, heading):
-    """The indented blocks below this heading of a page, up to the next one."""
-    section = re.search(rf"^{re.escape(heading)}$(.*?)(?=^#|\Z)", text, re.MULTILINE | re.DOTALL)[1]
-    return [re.sub("^    ", "", block, flags=re.MULTILINE) for block in re.findall(r"^(?:    .*\n)+", section, re.MULTILINE)]
+def indented_blocks(text):
+    """The indented blocks of a page's text, without the blanks before their lines."""
+    return [re.sub("^(?: {4}|\t)", "", block, flags=re.MULTILINE) for block in INDENTED.findall(without_fences(text))]
+
+
+def below(text, heading):
+    """What a page's text has below this heading, up to the next one."""
+    return re.search(rf"^{re.escape(heading)}$(.*?)(?=^#|\Z)", text, re.MULTILINE | re.DOTALL)[1]
+
+
+def indented(page, heading):
+    """The indented blocks below this heading of a page."""
+    return indented_blocks(below((TOP / page).read_text(), heading))
+
+
+def beginning(page, words):
+    """The indented blocks of a page that begin with these words."""
+    return [block for block in indented_blocks((TOP / page).read_text()) if block.startswith(words)]
+
+
+def without_fences(text):
+    """A page's text without its fenced blocks, and with nothing in its empty lines."""
+    text = re.sub(r"^```.*?^```$", "", text, flags=re.MULTILINE | re.DOTALL)
+    return re.sub(r"^[ \t]+$", "", text, flags=re.MULTILINE)
 
 
 def unfenced(text):
-    """A page's text without its fenced blocks and indented lines, and with a word instead of each piece of code."""
-    text = re.sub(r"^```.*?^```$", "", text, flags=re.MULTILINE | re.DOTALL)
-    text = "\n".join("" if line.startswith("    ") else line for line in text.split("\n"))
-    return re.sub(r"`[^`]*`", "X", text)
+    """A page's text without its blocks of code, and with a word instead of each piece of code."""
+    return re.sub(r"`[^`]*`", "X", INDENTED.sub("", without_fences(text)))
 
 
-def long_sentences(text):
-    """The sentences of a page's paragraphs and lists that have too many words."""
-    parts = re.split(r"\n\s*\n|\n(?=[-*] |\d+\. )", unfenced(text))
-    prose = [" ".join(part.split()) for part in parts if not part.strip().startswith(("|", "#", "!["))]
-    found = [sentence for part in prose for sentence in re.split(r"(?<=[.:;?!])\s+(?=[A-Z`\"(\[*])", part)]
-    return [sentence for sentence in found if len(sentence.split()) > SENTENCE]
+def long_sentences(text, ends=ENDS):
+    """The sentences of a page's paragraphs and items of lists that have too many words. A list ends the one before."""
+    parts = re.split(r"\n\s*\n|\n(?=\s*(?:[-*]|\d+\.) )|^#.*$", unfenced(text), flags=re.MULTILINE)
+    prose = [" ".join(part.split()) for part in parts if not part.strip().startswith(("|", "!["))]
+    # (two points are no end: what is left out between them and the next word may be anything)
+    end = re.compile(rf"(?<=[{ends}])(?<!\.\.)[)*_\"']*\s+(?=[A-Z`\"(\[*])")
+    return [sentence for part in prose for sentence in end.split(part) if len(sentence.split()) > SENTENCE]
 
 
 def words_of(these, text):

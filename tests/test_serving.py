@@ -1,15 +1,17 @@
 """The recipes of `docs/USING.md`: each block of commands writes the block after it, and keeping loses nothing."""
+import contextlib
 import csv
 import io
 import os
 import re
 import shutil
+import signal
 import socket
 import subprocess
 
-from pages import functions, recipes
+from pages import beginning, functions, recipes
 from program import LIMIT, NO_GIT, SHEET, TOP, Ended, ProgramTest, lines, run, started, taken
-from servers import HERE, free_port, serving
+from servers import HERE, Client, comes_to, free_port, serving
 from sizes import COLUMNS, LONGEST_DELTA, name
 
 # What the page has first: the functions that its recipes call.
@@ -195,12 +197,91 @@ class Failing(Pasting):
         self.assertEqual(self.paste(given), Ended(0, kept))
 
 
+# A stand-in for `ssh`, which leads to the port of this machine that `-W` names, and ends with that connection.
+SSH = """#!/bin/bash
+to=${@: -2:1}
+exec 3<> "/dev/tcp/${to/://}"
+cat <&0 >&3 &
+exec cat <&3
+"""
+
+
+class Starting(Pasting):
+    """Servers as the pages start them: a team's, and those of two machines."""
+
+    @contextlib.contextmanager
+    def running(self, commands, place=None):
+        """The shell of what these commands start in a folder; all of it is killed after the block."""
+        path = f"{self.place}:{os.environ['PATH']}"
+        how = {"cwd": place or self.place, "stdin": subprocess.DEVNULL, "stdout": subprocess.DEVNULL}
+        with started("-c", f"{commands}wait", program="bash", env={**os.environ, "PATH": path}, **how) as shell:
+            try:
+                yield shell
+            finally:
+                with contextlib.suppress(ProcessLookupError):
+                    os.killpg(shell.pid, signal.SIGKILL)
+
+    def client(self, port):
+        """A session at the server on this port, as soon as that listens."""
+        def listens():
+            with socket.socket() as look:
+                return look.connect_ex((HERE, port)) == 0
+
+        self.assertTrue(comes_to(listens))
+        client = Client(port)
+        self.addCleanup(client.close)
+        return client
+
+    def test_a_server_has_all_that_it_answered_when_it_is_started_again(self):
+        served = [*beginning("README.md", "./sheet serve"),
+                  *beginning("docs/USING.md", "./sheet serve --port 7001 --keep")]
+        self.assertEqual(len(served), 2)
+        for commands in served:
+            port = free_port()
+            for number in (1, 2, 3):
+                with self.subTest(commands=commands, number=number), self.running(commands.replace("7001", str(port))):
+                    client = self.client(port)
+                    self.assertEqual(client.ask("get A1"), f"val {number - 1 or ''}")
+                    self.assertEqual(client.ask(f"set A1 {number}"), f"ok {number}")
+
+    def test_by_nohup_it_outlives_its_terminal(self):
+        [commands] = beginning("docs/USING.md", "./sheet serve --port 7001 --keep")
+        port = free_port()
+        commands = commands.replace("./sheet serve", "nohup ./sheet serve").replace("7001", str(port))
+        with self.running(commands.replace("\n", " &\n")) as shell:
+            client = self.client(port)
+            os.killpg(shell.pid, signal.SIGHUP)
+            self.assertEqual(shell.wait(LIMIT), -signal.SIGHUP)
+            self.assertEqual(client.ask("set A1 5"), "ok 1")
+            self.assertEqual(self.client(port).ask("get A1"), "val 5")
+
+    def test_a_laptop_and_the_office_agree_after_each_time_without_a_network(self):
+        [office] = beginning("docs/USING.md", "./sheet serve --port 7001 --replica 1")
+        [laptop] = beginning("docs/USING.md", "./sheet serve --port 7001 --replica 2")
+        there, here, place = free_port(), free_port(), self.folder()
+        os.symlink(SHEET, place / "sheet")
+        (self.place / "ssh").write_text(SSH)
+        (self.place / "ssh").chmod(0o755)
+        # (both machines have the port 7001, and a pause of five seconds is long)
+        laptop = laptop.replace("-W 127.0.0.1:7001", f"-W 127.0.0.1:{there}").replace("7001", str(here))
+        with self.running(laptop.replace("sleep 5", "sleep 0.2")):
+            ours, count = self.client(here), 0
+            self.assertEqual(ours.ask("set A1 @tally"), "ok 1")
+            for _ in range(2):
+                self.assertTrue(ours.ask("add A1 3").startswith("ok "))
+                with self.running(office.replace("7001", str(there)), place):
+                    theirs = self.client(there)
+                    theirs.wait_for("get A1", f"val {count + 3}")
+                    self.assertTrue(theirs.ask("add A1 4").startswith("ok "))
+                    count += 7
+                    ours.wait_for("get A1", f"val {count}")
+
+
 class Copies(Pasting):
     """The copy of a running server, and what is made of it, as `docs/USING.md` has them."""
 
     def test_a_copy_is_a_sheet_again(self):
-        part = re.search(r"^With `backup`.*?^Changes since", PAGE, re.MULTILINE | re.DOTALL)[0]
-        copy, restore = re.findall(r"^    (.*)$", part, re.MULTILINE)
+        [copy], [restore] = beginning("docs/USING.md", "./sheet follow"), beginning("docs/USING.md", "sed '1i")
         (self.place / "backup").mkdir()
         with serving(None, "--keep", str(self.place / "team.lines")) as server:
             client = server.client()
@@ -216,8 +297,7 @@ class Copies(Pasting):
         self.assertEqual(ended.output, lines("rows 1", "7,3", "ok 2"))
 
     def test_no_copy_of_a_server_that_is_gone(self):
-        part = re.search(r"^With `backup`.*?^Changes since", PAGE, re.MULTILINE | re.DOTALL)[0]
-        copy = re.search(r"^    (.*)$", part, re.MULTILINE)[1]
+        [copy] = beginning("docs/USING.md", "./sheet follow")
         (self.place / "backup").mkdir()
         ended = self.paste(copy.replace("7001", str(free_port())))
         self.assertEqual((ended.status, ended.output), (1, b""))
@@ -240,9 +320,7 @@ class GoingBack(Pasting):
         return ended.output.decode().splitlines(), ended.error.decode()
 
     def test_it_has_the_first_100_changes_and_other_replicas_begin_with_them(self):
-        part = re.search(r"^\*\*To go back\*\*.*?^#", PAGE, re.MULTILINE | re.DOTALL)[0]
-        commands = re.findall(r"^    (.*)$", part, re.MULTILINE)
-        self.assertEqual(len(commands), 3)
+        [squashed], [renumbered] = beginning("docs/USING.md", "./sheet squash"), beginning("docs/USING.md", "sed '1s")
         made = [f"set A{row} {row}" for row in range(1, 100)] + ["set A1 kept"]
         later = [self.HOSTILE, "set B1 later", "set A2 changed"]
         self.kept("team.lines", *made, *later)
@@ -250,7 +328,7 @@ class GoingBack(Pasting):
         before = (self.place / "team.lines").read_bytes()
         # the first two make files of replica 1, and the last one a file of replica 2
         told = lines("squash: left out 3 of 103 lines", "squash: left out parts of 1 cells")
-        self.assertEqual(self.paste("\n".join(commands)), Ended(0, b"", told))
+        self.assertEqual(self.paste(squashed + renumbered), Ended(0, b"", told))
         self.assertEqual((self.place / "team.lines").read_bytes(), before)
         for replica, file, first in ((1, "early.lines", ["kept,", "2,"]), (2, "home.lines", ["kept,", "2,"]),
                                      (1, "others.lines", ["kept,later", "changed,"])):
