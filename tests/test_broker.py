@@ -1,5 +1,6 @@
 """The recipes of `docs/USING.md` over a broker: servers that know nothing of each other, at a real broker each time."""
 import contextlib
+import getpass
 import os
 import re
 import shutil
@@ -7,13 +8,14 @@ import signal
 import socket
 import subprocess
 import time
+from pathlib import Path
 
 from pages import indented
-from program import LIMIT, NO_BROKER, SHEET, TOP, ProgramTest
+from program import LIMIT, NO_BROKER, SHEET, ProgramTest
 from servers import HERE, comes_to, free_port, serving
 
 # The blocks of the page: the broker's file, what each machine runs at MQTT, how one asks, and what each runs at Redis.
-BLOCKS = indented((TOP / "docs/USING.md").read_text(), "## More machines: a broker")
+BLOCKS = indented("docs/USING.md", "## More machines: a broker")
 # How soon all have all, in seconds, once a line has reached the broker.
 IN_STEP = 15
 
@@ -49,10 +51,10 @@ class Machine:
         return (self.folder / f"log{self.number}").read_text()
 
     def run(self, commands):
-        """Runs the commands of the page beside the server."""
+        """Runs the commands of the page beside the server, which have this machine's number."""
         with open(self.folder / f"log{self.number}", "ab") as log:
             how = {"cwd": self.folder, "stdin": subprocess.DEVNULL, "stdout": log, "stderr": log, "start_new_session": True}
-            commands = re.sub(r"\b7001\b", str(self.server.port), commands)
+            commands = re.sub(r"\b7001\b", str(self.server.port), commands).replace("plan2", f"plan{self.number}")
             self.beside = subprocess.Popen(["bash", "-c", f"{commands}\nwait"], env=with_these(self.folder), **how)
 
     def halt(self):
@@ -61,6 +63,16 @@ class Machine:
             with contextlib.suppress(ProcessLookupError):
                 os.killpg(self.beside.pid, signal.SIGKILL)
             self.beside.wait(LIMIT)
+
+    def kill_join(self):
+        """Kills the join that runs beside the server, and nothing else."""
+        for process in Path("/proc").glob("[0-9]*"):
+            with contextlib.suppress(OSError):
+                is_join = b"\0join\0--with\0" in (process / "cmdline").read_bytes()
+                if is_join and os.getpgid(int(process.name)) == self.beside.pid:
+                    os.kill(int(process.name), signal.SIGKILL)
+                    return
+        raise AssertionError(self.said())
 
 
 class Agreement(ProgramTest):
@@ -143,26 +155,40 @@ class MqttTest(BrokerTest):
     programs, broker = ("mosquitto_sub", "mosquitto_pub"), ("mosquitto", "-v", "-c", "broker.conf")
 
     def start_broker(self):
-        (self.place / "broker.conf").write_text(BLOCKS[0].replace("1883", str(self.port)))
+        # (what root starts goes on as another, who may not write here)
+        user = f"user {getpass.getuser()}\n"
+        (self.place / "broker.conf").write_text(BLOCKS[0].replace("1883", str(self.port)) + user)
         super().start_broker()
 
+    def save(self):
+        """Has the broker write what it keeps, which it does by itself soon after each line."""
+        saved = self.log.read_text().count("Saving in-memory database")
+        self.running.send_signal(signal.SIGUSR1)
+        self.assertTrue(comes_to(lambda: self.log.read_text().count("Saving in-memory database") > saved))
+        # (it says so before it writes)
+        time.sleep(1)
 
-class Mqtt(MqttTest):
     def wait_for(self, machines):
         """Waits until so many machines are at the broker, with the two that listen of each."""
         self.assertTrue(comes_to(lambda: self.log.read_text().count("Sending SUBACK") >= 2 * machines), self.log.read_text())
+
+
+class Mqtt(MqttTest):
+    def begin(self, machines):
+        """Begins with so many machines. Each types something that all get."""
+        for _ in range(machines):
+            self.machine(BLOCKS[1])
+        self.wait_for(machines)
+        for machine in self.machines:
+            self.assertTrue(machine.edit())
+        self.assert_in_step()
 
     def ask(self):
         """Asks for all that the replicas have, as the page says."""
         subprocess.run(["bash", "-c", BLOCKS[2]], env=with_these(self.place), check=True, timeout=LIMIT)
 
     def test_three_machines_a_new_one_and_a_broker_that_is_killed(self):
-        for _ in range(3):
-            self.machine(BLOCKS[1])
-        self.wait_for(3)
-        for machine in self.machines:
-            self.assertTrue(machine.edit())
-        self.assert_in_step()
+        self.begin(3)
         self.machine(BLOCKS[1])
         self.wait_for(4)
         self.ask()
@@ -171,8 +197,27 @@ class Mqtt(MqttTest):
         for machine in self.machines:
             self.assertTrue(machine.edit())
         self.start_broker()
-        self.wait_for(4)
-        self.ask()
+        self.assert_in_step()
+
+    def test_a_machine_that_is_away_gets_what_was_sent_meanwhile(self):
+        self.begin(3)
+        away, *others = self.machines
+        away.halt()
+        for machine in others:
+            self.assertTrue(machine.edit())
+        # (they agree, so the broker has had their lines)
+        self.assertTrue(comes_to(lambda: others[0].shown() == others[1].shown()))
+        self.save()
+        self.restart_broker()
+        self.assertTrue(away.edit())
+        away.run(BLOCKS[1])
+        self.assert_in_step()
+
+    def test_a_join_that_is_killed_alone(self):
+        self.begin(2)
+        self.machines[0].kill_join()
+        for machine in self.machines:
+            self.assertTrue(machine.edit())
         self.assert_in_step()
 
     def test_what_came_in_is_not_published_again(self):
@@ -215,7 +260,48 @@ class Redis(RedisTest):
         for machine in self.machines:
             self.assertTrue(machine.edit())
         self.start_broker()
-        for machine in self.machines:
-            machine.halt()
-            machine.run(BLOCKS[3])
         self.assert_in_step()
+
+    def test_a_machine_that_is_away_goes_on_where_it_was(self):
+        for _ in range(2):
+            self.machine(BLOCKS[3])
+        for machine in self.machines:
+            self.assertTrue(machine.edit())
+        self.assert_in_step()
+        self.machines[0].halt()
+        # (Redis has how far it was, so what it has read needn't be there any more)
+        self.assertIn("plan1", self.cli("XINFO", "GROUPS", "plan"))
+        self.cli("XTRIM", "plan", "MAXLEN", "0")
+        for machine in self.machines:
+            self.assertTrue(machine.edit())
+        self.machines[0].run(BLOCKS[3])
+        self.assert_in_step()
+
+    def test_what_wasnt_acknowledged_is_read_again(self):
+        self.machine(BLOCKS[3])
+        self.assertTrue(self.machines[0].edit())
+        self.machine(BLOCKS[3])
+        self.assertTrue(self.machines[1].edit())
+        self.assert_in_step()
+        # what is read and not taken in, as by one that is killed meanwhile
+        self.machines[1].halt()
+        self.assertTrue(self.machines[0].edit())
+        read = "XREADGROUP", "GROUP", "plan2", "plan2", "STREAMS", "plan", ">"
+        self.assertTrue(comes_to(lambda: '"A1",[2,1,' in self.cli(*read)))
+        self.machines[1].run(BLOCKS[3])
+        self.assert_in_step()
+
+    def test_a_join_that_is_killed_alone(self):
+        for _ in range(2):
+            self.machine(BLOCKS[3])
+        for machine in self.machines:
+            self.assertTrue(machine.edit())
+        self.assert_in_step()
+        self.machines[0].kill_join()
+        for machine in self.machines:
+            self.assertTrue(machine.edit())
+        self.assert_in_step()
+
+    def cli(self, *words):
+        """What Redis answers to these words."""
+        return subprocess.run([self.place / "redis-cli", *words], capture_output=True, text=True, check=True).stdout

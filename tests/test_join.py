@@ -23,6 +23,8 @@ NOTHING = b""
 SOON = 1
 # The timeout of a connection, in seconds, and how many times shorter `hasten.c` makes it.
 TIMEOUT, HASTENED = 60, 10
+# Within so many seconds a join that stands still loses its session slot at a server with `--idle 2`.
+LONGEST_STILL = 29
 
 
 def join_words(first, second):
@@ -760,6 +762,57 @@ class Replicas(ProgramTest):
                 self.assertEqual(silent.told(), lines("val "))
             self.assert_goes_over(first, "A1", 1, second)
             self.assert_goes_over(second, "B1", 2, first)
+            self.assertEqual(join.stopped(), STOPPED)
+
+
+class Slots(ProgramTest):
+    """Servers with one session slot each, which a join takes."""
+
+    def assert_gets(self, server, *asked):
+        """A connection gets the slot, and each of these lines has its reply there."""
+        client = server.client()
+        self.assertEqual([client.ask(line) for line, _ in asked], [reply for _, reply in asked])
+        client.leave()
+
+    def test_it_takes_one_at_each_and_gives_it_back(self):
+        slot = ("--seats", "1", "--wait", "0")
+        with serving(None, *slot) as first, serving(None, "--replica", "2", *slot) as second:
+            self.assert_gets(first, ("set A1 1", "ok 1"))
+            self.assert_gets(second, ("set B1 2", "ok 1"))
+            with joining(first.port, second.port) as join:
+                self.assertEqual(join.told(), join.joined)
+                for server in (first, second):
+                    self.assertEqual(server.client().ask("get A1"), "err 21 seat")
+                self.assertEqual(join.stopped(), STOPPED)
+            for server in (first, second):
+                self.assertTrue(comes_to(lambda: self.is_free(server)))
+                self.assert_gets(server, ("get A1", "val 1"), ("get B1", "val 2"), ("wait 0", "version 2"))
+            self.assertEqual(joined_once(first.port, second.port), Ended(0, lines("joined")))
+
+    def is_free(self, server):
+        """Whether the slot is free."""
+        client = server.client()
+        is_free = client.ask("get A1") != "err 21 seat"
+        client.leave() if is_free else client.close()
+        return is_free
+
+    def test_one_that_stands_still_loses_it(self):
+        """This takes some 18 seconds: the server sees after a while that nobody takes what it sends."""
+        with serving(None, "--seats", "1", "--wait", "60", "--idle", "2") as first, \
+                serving(None, "--replica", "2") as second, joining(first.port, second.port) as join:
+            self.assertEqual(join.told(), join.joined)
+            join.session.send_signal(signal.SIGSTOP)
+            begun = time.monotonic()
+            client = first.client()
+            client.connection.settimeout(LONGEST_STILL)
+            self.assertEqual(client.ask("set A1 1"), "ok 1")
+            self.assertLess(time.monotonic() - begun, LONGEST_STILL)
+            client.leave()
+            # once it goes on, it joins them again
+            join.session.send_signal(signal.SIGCONT)
+            self.assertEqual(join.told(), is_lost(first.port))
+            second.client().wait_for("get A1", "val 1")
+            self.assertEqual(join.told(), join.joined)
             self.assertEqual(join.stopped(), STOPPED)
 
 

@@ -32,6 +32,11 @@ def read(name):
     return {section: dict(parser[section]) for section in parser.sections()}
 
 
+def again(command):
+    """The loop of a recipe that runs this command again and again."""
+    return f"while :; do {command}; sleep 5; done &"
+
+
 def services():
     """The services, each with its name and its settings."""
     return {file.name: read(file.name)["Service"] for file in sorted(UNITS.glob("*.service"))}
@@ -52,6 +57,7 @@ class Service:
     def expanded(self, command):
         """The words of a command, with these words and ports instead of the unit's."""
         command = re.sub(r"\$\{(\w+)\}", lambda found: self.words[found[1]], command.replace("%h", str(self.place)))
+        command = command.replace("$$", "$")
         first, *rest = shlex.split(re.sub(r"\b700[12]\b", lambda found: str(self.ports[int(found[0])]), command))
         here = self.place / "bin" / os.path.basename(first)
         return [str(here) if here.exists() else first, *rest]
@@ -62,7 +68,8 @@ class Service:
             how = {"stdin": subprocess.DEVNULL, "stdout": log, "stderr": log, "start_new_session": True}
             while not self.is_over.is_set():
                 for command in self.commands:
-                    self.running = subprocess.Popen(command, env=with_these(self.place / "bin"), cwd=self.place, **how)
+                    environment = {**with_these(self.place / "bin"), **self.words}
+                    self.running = subprocess.Popen(command, env=environment, cwd=self.place, **how)
                     self.running.wait()
                 self.is_over.wait(self.rest)
 
@@ -161,11 +168,19 @@ class Units(unittest.TestCase):
 
     def test_they_run_what_the_page_has(self):
         page = [" ".join(block.replace("./sheet", "sheet").split()) for block in BLOCKS]
-        one, all_ = (shlex.split(services()[name]["ExecStart"])[-1] for name in ("sheet-mqtt.service", "sheet-mqtt-all.service"))
-        self.assertEqual(f"{one} & {all_} &", page[1])
+        names = "sheet-mqtt.service", "sheet-mqtt-all.service"
+        commands = (shlex.split(services()[name]["ExecStart"])[-1].replace("$$", "$") for name in names)
+        loops = " ".join(again(command.replace("plan${REPLICA}", "plan2")) for command in commands)
+        self.assertEqual(loops, page[1])
         self.assertEqual(services()["sheet-mqtt-ask.service"]["ExecStart"], f"/usr/bin/{page[2]}")
-        script = " ".join((UNITS / "sheet-redis").read_text().split("set -o pipefail\n")[1].split())
-        self.assertEqual(f"{script} &", page[3])
+        script = (UNITS / "sheet-redis").read_text().split("set -o pipefail\n")[1].replace("plan$REPLICA", "plan2")
+        *functions, last = script.splitlines()
+        self.assertEqual(f"{' '.join(' '.join(functions).split())} {again(last)}", page[3])
+
+    def test_all_of_a_machine_have_its_number(self):
+        for name, settings in services().items():
+            if "REPLICA" in settings["ExecStart"]:
+                self.assertEqual(settings["Environment"], "REPLICA=1", name)
 
 
 class Office(Killed):
@@ -181,8 +196,9 @@ class OverMqtt(MqttTest, Killed):
     def test_three_machines(self):
         names = ["sheet-mqtt.service", "sheet-mqtt-all.service"]
         machines = [Machine(self, number, names, self.programs) for number in (1, 2, 3)]
-        # (sooner than the timer)
+        # (a broker that is killed may lose what it has just taken; sooner than the timer)
         self.addCleanup(Service("sheet-mqtt-ask.service", machines[0].place, {}, 2).end)
+        self.wait_for(3)
         self.assert_agree_after(machines, [self.restart_broker, *(service.kill for service in machines[0].services.values())])
 
 
