@@ -8,7 +8,9 @@ from concurrent.futures import ThreadPoolExecutor
 from hunt import deltas, faults, finds
 from hunt.finds import Hunt
 from hunt.parts import PARTS, Scripts
+from hunt.session import written
 from program import LIMIT, TOP, ProgramTest
+from test_transcripts import FILES, transcript
 
 SEED = 15
 # How many plans of each part are run.
@@ -75,6 +77,17 @@ class Model(ProgramTest):
             with self.subTest(register=register):
                 self.assertIsNone(deltas.read_delta(line))
                 self.assert_session(b"push %s\n" % line, b"err 14 delta\n")
+
+
+    def test_it_replies_as_the_worked_rows_have_it(self):
+        for file in FILES:
+            for session in map(transcript, file.read_text().split("\n\n")):
+                # (the plain model has one session, so it doesn't wait)
+                if b"wait" in session.given:
+                    continue
+                with self.subTest(file=file.name, title=session.title):
+                    replica = int(session.words[session.words.index("--replica") + 1]) if session.words else 1
+                    self.assertEqual(written(session.given, replica), session.replies)
 
 
 class Planted(ProgramTest):

@@ -55,6 +55,15 @@ def joined(one, other):
     return State(max(one.register, other.register), counts, merged(one.pairs, other.pairs, max))
 
 
+def news(state, other):
+    """What is new of the other state: the least state whose join with the first one is the join of both."""
+    counts = {replica: tuple(new if new > known else 0 for known, new in zip(state.counts.get(replica, (0, 0)), own))
+              for replica, own in other.counts.items()}
+    pairs = {pair: gone for pair, gone in other.pairs.items() if gone > state.pairs.get(pair, -1)}
+    register = other.register if other.register > state.register else ()
+    return State(register, {replica: own for replica, own in counts.items() if any(own)}, pairs)
+
+
 def made_by(replica, state):
     """What a replica made of a state of a cell. Any replica can have taken a pair of it out."""
     register = state.register if state.register and state.register[1] == replica else ()

@@ -81,7 +81,25 @@ class Unlimited(Sheet):
         return contents.NOT_CHOSEN if refusal == contents.CLOCK_FULL else refusal
 
 
-SHEETS = (Late, Stale, Partial, Lost, Doubled, First, Revived, Unlimited)
+class MergesAll(Sheet):
+    """A merge takes what is known with what is new."""
+
+    def news(self, delta):
+        return delta if super().news(delta) else {}
+
+
+class MergesNoRemoval(Sheet):
+    """A merge leaves out that a pair is removed that was added here."""
+
+    def news(self, delta):
+        found = {}
+        for cell, state in super().news(delta).items():
+            pairs = {pair: gone for pair, gone in state.pairs.items() if pair not in self.state(cell).pairs}
+            found[cell] = state._replace(pairs=pairs)
+        return {cell: state for cell, state in found.items() if state != deltas.EMPTY}
+
+
+SHEETS = (Late, Stale, Partial, Lost, Doubled, First, Revived, Unlimited, MergesAll, MergesNoRemoval)
 # What each changes: a delta line is lost or doubled, a refusal has another number, a version is one too high.
 EDITS = (r"/^delta 7 /d", r"/^delta 5 /p", r"s/^err 12 not-chosen$/err 11 choice-full/", r"s/^err 8 /err 7 /",
          r"s/^end 2$/end 3/")

@@ -14,8 +14,11 @@ from .session import Session
 OUT_OF_MEMORY = refusal("memory")
 # Words of lines that show a version, and of those that are for the newest one.
 READS = (b"get", b"rows")
-NEWEST = (b"set", b"add", b"sub", b"choose", b"unchoose", b"push", b"pull", b"entry", b"entries")
+NEWEST = (b"set", b"add", b"sub", b"choose", b"unchoose", b"push", b"merge", b"pull", b"entry",
+          b"entries")
 EDITS, SHOW_NEWEST = NEWEST[:5], NEWEST[-3:]
+# Words of lines that made the delta of their receipt, and no other did.
+MAKERS = (*EDITS, b"merge")
 
 
 class Wrong(Exception):
@@ -102,12 +105,12 @@ class Judge:
             self.follow(talk)
 
     def claim(self):
-        """Gives each receipt of an edit its place, which no other has."""
+        """Gives each receipt of an edit or a merge its place, which no other has."""
         owners = {}
         for talk in self.talks:
             for line in talk.lines:
                 number = receipt_of(line)
-                if number is None or verb_of(line) not in EDITS:
+                if number is None or verb_of(line) not in MAKERS:
                     continue
                 if not self.history.makes(line.text, number):
                     raise Wrong(f"{line.text!r} is answered {line.reply!r}, and isn't what made that delta")
@@ -119,7 +122,8 @@ class Judge:
                 self.sent[number] = line.sent
 
     def claim_for_pushes(self):
-        """Gives places to lines that push. Several may have brought the same."""
+        """Gives places to lines that push. Several may have brought the same, as may a merge that wasn't answered."""
+        merges = [line for talk in self.talks for line in talk.unanswered() if verb_of(line) == b"merge"]
         for talk in self.talks:
             for line in talk.lines:
                 number = receipt_of(line)
@@ -127,8 +131,10 @@ class Judge:
                     continue
                 if self.history.makes(line.text, number) and self.is_within(talk, number):
                     delta = self.history.deltas[number - 1]
-                    self.sent[number] = min(it.sent for other in self.talks for it in other.lines
-                                            if verb_of(it) == b"push" and read_delta(it.text[5:]) == delta)
+                    pushes = [it.sent for other in self.talks for it in other.lines
+                              if verb_of(it) == b"push" and read_delta(it.text[5:]) == delta]
+                    merged = [it.sent for it in merges if self.history.makes(it.text, number)]
+                    self.sent[number] = min(pushes + merged)
 
     def claim_unanswered(self):
         """Gives places that are left to lines that weren't answered, one to each at most."""
@@ -189,7 +195,8 @@ class Judge:
             version = self.version_of(line, least, most)
             if version is None:
                 raise Wrong(self.about(line, least, most))
-            if verb in READS or verb in SHOW_NEWEST or receipt_of(line) is not None:
+            is_same = line.reply.startswith(b"same ")
+            if verb in READS or verb in SHOW_NEWEST or is_same or receipt_of(line) is not None:
                 seen = version
 
     def lacked(self, line):

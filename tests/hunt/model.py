@@ -36,6 +36,18 @@ class Sheet:
         if not all(self.has(cell, state) for cell, state in delta.items()):
             self.append(delta)
 
+    def merge(self, delta):
+        """Takes in what is new of a delta of another replica, and returns whether anything is."""
+        news = self.news(delta)
+        if news:
+            self.append(news)
+        return bool(news)
+
+    def news(self, delta):
+        """What is new of a delta: the least one with the same join."""
+        states = {cell: deltas.news(self.state(cell), state) for cell, state in delta.items()}
+        return {cell: state for cell, state in states.items() if state != EMPTY}
+
     def has(self, cell, state):
         """Whether a state of the cell brings nothing new."""
         return deltas.joined(self.state(cell), state) == self.state(cell)

@@ -65,8 +65,17 @@ class Revoked(Sheet):
             self.states[cell] = self.states[cell]._replace(pairs=pairs)
 
 
+class MergesKnownCounts(Sheet):
+    """A merge takes both numbers of a replica's counts where one of them is new."""
+
+    def news(self, delta):
+        found = super().news(delta)
+        return {cell: state._replace(counts={replica: delta[cell].counts[replica] for replica in state.counts})
+                for cell, state in found.items()}
+
+
 SHEETS = (*(kind for kind in faults.SHEETS if kind is not faults.Unlimited), LastComes, LesserReplica, Summed,
-          OwnIgnored, Revoked)
+          OwnIgnored, Revoked, MergesKnownCounts)
 
 
 def on_sheet(kind):

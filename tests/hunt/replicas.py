@@ -1,11 +1,11 @@
 """Replicas that edit apart and meet: a plan of a simulated network, and what is wrong with what comes of it.
 
 A replica is a process of the program, with the model's session beside it; each reply has to be that of the model. What
-one replica has is carried to another as delta lines, which wait on their way until the plan delivers, repeats, drops
-or joins them, in any order. A replica that is stopped has kept the lines that it had sent until then. Once it is
-started they are pushed again before all else. Or it keeps itself in a file, and goes on by it as it was, whatever
-ended it. When the network heals, each replica sends all that it has to the next one, twice round. Then all have to
-show what the model shows of the join of all lines that were sent.
+one replica has is carried to another as delta lines, which wait on their way until the plan delivers, repeats, drops or
+joins them, in any order. They are pushed or merged there. A replica that is stopped has kept the lines that it had sent
+until then. Once it is started they are pushed again before all else. Or it keeps itself in a file, and goes on by it as
+it was, whatever ended it. When the network heals, each replica sends all that it has to the next one, twice round. Then
+all have to show what the model shows of the join of all lines that were sent.
 """
 import tempfile
 from pathlib import Path
@@ -183,17 +183,17 @@ class Network:
         self.replicas[one].start()
         return len(self.replicas[one].session.sheet.history)
 
-    def deliver(self, one, other, place, is_last=True):
-        """Delivers a line that is on its way, for the last time or not."""
+    def deliver(self, one, other, place, verb=b"push ", is_last=True):
+        """Delivers a line that is on its way, to be pushed or merged, for the last time or not."""
         way = self.way(one, other)
         if way and not self.is_cut(one, other) and self.replicas[other].process is not None:
             line = way.pop(place % len(way)) if is_last else way[place % len(way)]
             self.counts["deltas carried"] += 1
-            self.replicas[other].ask(b"push " + line)
+            self.replicas[other].ask(verb + line)
 
-    def repeat(self, one, other, place):
+    def repeat(self, one, other, place, verb=b"push "):
         """Hands over a line that stays on its way."""
-        self.deliver(one, other, place, False)
+        self.deliver(one, other, place, verb, False)
 
     def drop(self, one, other, place):
         """Loses a line that is on its way."""
@@ -237,7 +237,7 @@ class Network:
         """Cuts the network into two groups."""
         self.groups = groups
 
-    def heal(self):
+    def heal(self, verb=b"push "):
         """Joins all groups: what is on its way arrives, all send what they have, and all show the same."""
         self.groups = 0
         self.counts["heals"] += 1
@@ -245,17 +245,17 @@ class Network:
             replica.start()
         for (one, other), way in self.ways.items():
             while way:
-                self.deliver(one, other, len(way) // 2)
-        lines = [line for _ in range(2) for one in range(len(self.replicas)) for line in self.hand_on(one)]
+                self.deliver(one, other, len(way) // 2, verb)
+        lines = [line for _ in range(2) for one in range(len(self.replicas)) for line in self.hand_on(one, verb)]
         self.compare(lines)
 
-    def hand_on(self, one):
+    def hand_on(self, one, verb):
         """Hands all that a replica has to the next one, and returns its lines."""
         lines = [*self.replicas[one].handed_out(0)]
         following = self.replicas[(one + 1) % len(self.replicas)]
         for line in lines:
             self.counts["deltas carried"] += 1
-            following.ask(b"push " + line)
+            following.ask(verb + line)
         return lines
 
     def compare(self, lines):

@@ -5,6 +5,7 @@ from .model import Sheet
 from .plans import Plan
 from .replicas import ENDS, FORGETS, KILLED
 from .scripts import OPTIONS, corner_names
+from .session import TAKING
 
 # How many there are, mostly few.
 REPLICAS = (2, 2, 2, 3, 3, 4, 5, 8, 12, 32)
@@ -72,14 +73,21 @@ class Planner:
 
     def hostile(self):
         """A delta that nobody made, at one of the replicas."""
+        return self.one(), self.chance.of(TAKING) + self.delta()
+
+    def delta(self):
+        """The line of a delta that nobody made."""
         texts = [entries.canonical(entry) for entry in self.pool]
-        return self.one(), b"push " + delta_lines.hostile(self.chance, self.names, texts, Sheet())
+        return delta_lines.hostile(self.chance, self.names, texts, Sheet())
 
     def carry(self):
         return *self.two(), self.chance.of((1, 1, 2, 3, 16, 16))
 
     def place(self):
         return *self.two(), self.chance.of((0, 0, 0, 1, 2, 5))
+
+    def deliver(self):
+        return *self.place(), self.chance.of(TAKING)
 
     def stop(self):
         return self.one(), self.chance.of((ENDS, ENDS, KILLED, KILLED, FORGETS))
@@ -96,9 +104,9 @@ class Planner:
         return (self.chance.getrandbits(self.replicas),)
 
     def heal(self):
-        return ()
+        return (self.chance.of(TAKING),)
 
-    MAKES = {"line": line, "carry": carry, "deliver": place, "repeat": place, "drop": place, "join": place,
+    MAKES = {"line": line, "carry": carry, "deliver": deliver, "repeat": deliver, "drop": place, "join": place,
              "stop": stop, "tear": tear, "start": start, "cut": cut, "heal": heal}
 
 

@@ -5,14 +5,14 @@ from sizes import COLUMNS
 
 from . import contents, delta_lines, entries
 from .places import CELL_OF, NAMES, ROWS
-from .session import Session
+from .session import TAKING, Session
 
 CORNERS = ((2, 1), (1, 3), (2, 2), (2, 3), (3, 3), (1, 6), (6, 1), (4, 4), (5, 6))
 AMOUNTS = (b"1", b"1", b"2", b"3", b"7", b"1000000", b"999999", b"0", b"1000001", b"0007", b"-1", b"+1", b"", b"1.0",
            b"18446744073709551615", b"18446744073709551616", b"x", b"0" * 30 + b"4")
 OPTIONS = (b"0", b"0", b"1", b"2", b"3", b"7", b"63", b"64", b"007", b"-1", b"", b"18446744073709551616", b"x")
-VERBS = (b"set", b"add", b"sub", b"choose", b"unchoose", b"get", b"rows", b"entry", b"entries", b"push", b"pull",
-         b"replica", b"SET", b"", b"walk", b"\xff")
+VERBS = (b"set", b"add", b"sub", b"choose", b"unchoose", b"get", b"rows", b"entry", b"entries", b"push", b"merge",
+         b"pull", b"replica", b"SET", b"", b"walk", b"\xff")
 NO_CELLS = (b"", b"A0", b"A01", b"a1", b"A1025", b"DA1", b"AAA1", b"A", b"1", b"$A1", b"A1:B1", b"\xc3\x81", b"+A1",
             b"CZ1025")
 NUMBERS = (b"0", b"1", b"00", b"01", b"16", b"17", b"x", b"", b"-1", b"18446744073709551615", b"18446744073709551616")
@@ -144,40 +144,44 @@ class Writer:
         self.ask(b"pull " + begin + most)
 
     def push(self, line):
-        """Pushes this line, which may come again."""
+        """Pushes or merges this line, which may come again."""
         self.pushed.append(line)
-        self.write(b"push " + line)
+        self.take(line)
+
+    def take(self, line):
+        """Pushes or merges this line."""
+        self.write(self.chance.of(TAKING) + line)
 
     def hostile(self):
-        """Pushes a delta that nobody made."""
+        """Pushes or merges a delta that nobody made."""
         texts = self.texts
         if self.chance.once_in(10):
             texts = [entries.canonical(entries.odd_entry(self.chance, self.names))]
         self.push(delta_lines.hostile(self.chance, self.names, texts, self.session.sheet))
 
     def again(self):
-        """Pushes a line again that was pushed before, or what was handed out."""
+        """Pushes or merges a line again that came before, or what was handed out."""
         if self.pushed and self.chance.random() < 0.8:
-            self.write(b"push " + self.chance.of(self.pushed))
+            self.take(self.chance.of(self.pushed))
         else:
-            self.hand_over(self.session, self.write)
+            self.hand_over(self.session, self.take)
 
     def meet(self):
         """The peer edits, and hands over some of what it has; now and then it takes in what was done here."""
         for _ in range(self.chance.of((1, 1, 2, 4))):
             make = self.chance.of((self.assignment, self.assignment, self.counting, self.choosing))
             self.peer.reply(make(self.peer.sheet))
-        self.hand_over(self.peer, lambda line: self.push(line.removeprefix(b"push ")))
+        self.hand_over(self.peer, self.push)
         if self.chance.once_in(3):
-            self.hand_over(self.session, self.peer.reply)
+            self.hand_over(self.session, lambda line: self.peer.reply(self.chance.of(TAKING) + line))
 
     def hand_over(self, session, take):
-        """Has `take` a line that pushes some of the deltas of this session, mostly the last ones."""
+        """Has `take` the line of some of the deltas of this session, mostly the last ones."""
         version = len(session.sheet.history)
         begin = max(0, version - self.chance.of((1, 1, 2, 2, 4, 16)))
         reply = session.reply(b"pull %d %d" % (begin, self.chance.randint(1, 16)))
         if reply.startswith(b"delta "):
-            take(b"push " + reply.split(b" ", 2)[2])
+            take(reply.split(b" ", 2)[2])
 
     def broken(self):
         """A line with something wrong in its words."""

@@ -11,6 +11,8 @@ from .places import CELL_OF, spanned
 from .records import written_record
 
 LARGEST_GROUP, LARGEST_NUMBER = 16, 2**64 - 1
+# How lines begin that take in a delta, which is all that follows.
+TAKING = (b"push ", b"merge ")
 DIGEST = re.compile(rb"[0-9a-f]{16}")
 
 
@@ -58,7 +60,7 @@ class Session:
         line = line.removesuffix(b"\r")
         if not line:
             return None
-        verb, *rest = line.split(b" ", 2 if line.startswith(b"set ") else 1 if line.startswith(b"push ") else -1)
+        verb, *rest = line.split(b" ", 2 if line.startswith(b"set ") else 1 if line.startswith(TAKING) else -1)
         asked, least, most = self.VERBS.get(verb, (None, 1, 0))
         if not least <= len(rest) <= most:
             return contents.NO_COMMAND
@@ -99,12 +101,20 @@ class Session:
     def entries(self, corners):
         return table_of(b"entries", corners, lambda cell: contents.canonical_text(self.sheet.content(cell)))
 
-    def push(self, line):
+    def taken(self, line):
+        """The delta of a line that takes it in."""
         delta = deltas.read_delta(line)
         if delta is None:
-            return contents.NO_DELTA
+            raise Refused(contents.NO_DELTA)
         self.is_elsewhere = self.is_elsewhere or not self.sheet.has_own(delta)
-        return self.edited(self.sheet.receive(delta))
+        return delta
+
+    def push(self, line):
+        return self.edited(self.sheet.receive(self.taken(line)))
+
+    def merge(self, line):
+        is_new = self.sheet.merge(self.taken(line))
+        return b"%s %d" % (b"ok" if is_new else b"same", len(self.sheet.history))
 
     def pull(self, begin, most=b"1"):
         begin = number_of(begin, contents.NO_VERSION)
@@ -128,7 +138,8 @@ class Session:
     VERBS = {
         b"set": (set, 1, 2), b"add": (add, 2, 2), b"sub": (sub, 2, 2), b"choose": (choose, 2, 2),
         b"unchoose": (unchoose, 2, 2), b"get": (get, 1, 1), b"rows": (rows, 1, 1), b"entry": (entry, 1, 1),
-        b"entries": (entries, 1, 1), b"push": (push, 1, 1), b"pull": (pull, 1, 2), b"replica": (replica, 0, 1),
+        b"entries": (entries, 1, 1), b"push": (push, 1, 1), b"merge": (merge, 1, 1), b"pull": (pull, 1, 2),
+        b"replica": (replica, 0, 1),
     }
 
 

@@ -5,6 +5,7 @@ from .chance import Chance
 from .plans import Plan
 from .replicas_by_chance import Planner
 from .scripts import NO_CELLS, NUMBERS
+from .session import TAKING
 
 SESSIONS = (1, 2, 3, 4, 6, 8, 12, 15)
 LENGTHS = (10, 30, 60, 100, 200)
@@ -45,11 +46,10 @@ class SessionPlanner(Planner):
                           b"replica", b"replica 2"))
 
     def push(self):
-        """A line that pushes a delta that nobody made, often one that was pushed before."""
+        """A line that pushes or merges a delta that nobody made, often one that came before."""
         if not self.pushed or self.chance.once_in(2):
-            _, line = self.hostile()
-            self.pushed.append(line)
-        return self.chance.of(self.pushed)
+            self.pushed.append(self.delta())
+        return self.chance.of(TAKING) + self.chance.of(self.pushed)
 
     def lines(self, most):
         """So many lines at most."""

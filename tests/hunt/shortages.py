@@ -31,7 +31,7 @@ NO_DEVICE = contents.refusal("device")
 ERRORS = {"m": (errno.ENOMEM,), "r": (0, 0, errno.EIO), "w": (0, 0, errno.EIO, errno.ENOSPC),
           "a": (errno.EINTR, errno.ECONNABORTED, errno.ENOBUFS)}
 # The first words of lines that take memory.
-TAKING = (b"set", b"push", b"add", b"sub", b"choose", b"unchoose", b"rows", b"pull", b"entry",
+TAKING = (b"set", b"push", b"merge", b"add", b"sub", b"choose", b"unchoose", b"rows", b"pull", b"entry",
           b"entries")
 
 

@@ -2,22 +2,25 @@
 import json
 import time
 
+from .session import TAKING
+
 # So many trials end the work, or so many seconds, whatever is left.
 TRIALS, SECONDS = 2_000, 120
 
 
 def cells_of(line):
-    """The cells of the delta that the line pushes, as JSON values; none where it pushes none."""
+    """The cells of the delta that the line takes in, as JSON values; none where it takes in none."""
     try:
-        cells = json.loads(line.removeprefix(b"push ")) if line.startswith(b"push ") else []
+        cells = json.loads(line.split(b" ", 1)[1]) if line.startswith(TAKING) else []
     except ValueError:
         return []
     return cells if type(cells) is list else []
 
 
-def line_of(cells):
-    """A line that pushes these cells."""
-    return b"push %s\n" % json.dumps(cells, ensure_ascii=False, separators=(",", ":")).encode("utf-8", "surrogatepass")
+def line_of(verb, cells):
+    """A line that takes in these cells by this word."""
+    text = json.dumps(cells, ensure_ascii=False, separators=(",", ":"))
+    return b"%s %s\n" % (verb, text.encode("utf-8", "surrogatepass"))
 
 
 class Shrinker:
@@ -51,13 +54,14 @@ class Shrinker:
             self.takes(parts=parts[:place] + parts[place + length:])
 
     def leave_out_cells(self):
-        """Leaves out cells of the deltas that are pushed."""
+        """Leaves out cells of the deltas that are taken in."""
         for place, part in enumerate(self.script.parts):
             cells = cells_of(part) if type(part) is bytes else []
             for cell in cells[::-1]:
                 fewer = [it for it in cells if it is not cell]
                 parts = self.script.parts
-                if fewer and self.takes(parts=(*parts[:place], line_of(fewer), *parts[place + 1:])):
+                line = line_of(part.split(b" ", 1)[0], fewer)
+                if fewer and self.takes(parts=(*parts[:place], line, *parts[place + 1:])):
                     cells = fewer
 
     def shrunk(self):
