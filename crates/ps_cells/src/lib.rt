@@ -4,12 +4,8 @@
 //! delta can reach. Then the caller commits the change, or cancels it as if it had never been. This crate decides which
 //! formulas are evaluated for a change. It knows no history, no replica and no edit.
 //!
-//! Use the contract of [`Cells::stage`]. After the call the state is the join, and what the cells show is settled for
-//! this state (`IsSettled`): each cell shows what evaluating every formula from scratch gives. Exactly the due formulas
-//! were evaluated (`IsRecalculated`). These are the formulas of changed cells, and those that refer to a cell whose
-//! value changed, except cyclic ones. The returned [`Work`] counts the evaluated formulas. If allocation fails, the
-//! cells hold and show what they did before the call. [`Cells::cancel`] restores what the cells held and showed before
-//! the change. Neither [`Cells::cancel`] nor [`Cells::commit`] allocates memory.
+//! Use the contract of [`Cells::stage`]. What the cells show after the call is settled (`IsSettled`): each cell shows
+//! what evaluating every formula from scratch gives. `IsRecalculated` defines which formulas the call evaluates.
 //!
 //! Say B1 holds `=[.A1]*2`, and a delta that gives A1 the number 5 is staged. Then B1 shows 10, the formula of one cell
 //! was evaluated, and [`Cells::list_changed`] lists A1 and B1. After a cancel both cells show what they showed before.

@@ -130,7 +130,7 @@ impl<L: Named, R: Wait + Drop> FaceWriter<L, R> {
     /// method is part of the public interface, for callers that do something between the two steps, such as a test that
     /// looks at the copies.
     ///
-    /// Cost: constant; the first call takes memory for one patch.
+    /// Cost: the first call takes memory for one patch.
     pub fn append(&mut self, patch: Patch<'_>) -> Result<(), Refusal>
         requires none { self.old.pending ≡ [] }
         requires legal { Follows (history_of L.opening self.old.list) patch }

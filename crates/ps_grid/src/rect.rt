@@ -106,7 +106,7 @@ impl Rect {
 
     /// Returns an iterator over the cells of the rectangle, row by row, each once.
     ///
-    /// Cost: constant for each cell, without a division.
+    /// Cost: linear in the cells, without a division.
     pub fn cells(self) -> RectCells
         ensures cells { result ≡ cells_of self }
         ensures inside { (c : ℕ) → list_any (nat_eq c) result ≡ is_inside self c }

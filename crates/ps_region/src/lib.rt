@@ -12,20 +12,12 @@
 //! formula. If `B1` becomes `=[.D1]`, the three formulas form a cycle: there is no level, all three cells are cyclic,
 //! and `Region::left` of `D1` is 2, as `D1` refers to two of them.
 //!
-//! Use the contract of `Region::mark`. `IsFound` of `specs/Found.antt` describes what it finds, by chains of references
-//! alone:
+//! Use the contract of `Region::mark`. `IsFound` of `specs/Found.antt` defines what a mark finds, by chains of
+//! references alone. Cells of one level don't refer to each other, so that they can be evaluated at the same time.
 //!
-//! - The members are the cells with a chain of references to a touched cell, each once.
-//! - The levels have the formula cells of the region that reach no cycle. A cell is in level `n` if the longest chain
-//!   of references that begins at it and has only such cells has `n` cells. So cells of one level don't refer to each
-//!   other.
-//! - The cyclic cells are the region's formula cells that reach a cycle.
-//!
-//! The index may still list what touched cells referred to before the change.
-//!
-//! Cost: `Region::new` allocates the tables, 31 bytes for each cell of the grid, and writes nothing to them. No other
-//! call of a region allocates. The first `Region::mark` writes the tables that are read by cell, 15 bytes for each cell
-//! of the grid; no later mark passes over the grid.
+//! Cost: `Region::new` allocates the tables, 31 bytes for each cell of the grid, and writes nothing to them. The first
+//! `Region::mark` writes the tables that are read by cell, 15 bytes for each cell of the grid. No later mark passes
+//! over the grid.
 //!
 //! For each cell of the region, a mark iterates over the cells that refer to that cell. It does so twice if they are
 //! three or more, once if they are none or one, and mostly once if they are two. If the caller's set of cyclic cells

@@ -65,7 +65,7 @@ impl Kept {
 
     /// Returns whether `self` and `other` have the same value.
     ///
-    /// Cost: constant, except that two texts cost at most linear time in their bytes.
+    /// Cost: for two texts, at most linear in their bytes.
     #[inline(always)]
     pub fn is_same(&self, other: &Kept) -> bool
         ensures { IsTrue result ↔ (value_of self.now ≡ value_of other.now) }

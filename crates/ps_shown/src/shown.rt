@@ -285,8 +285,8 @@ impl Shown {
     ///
     /// After a drop, the next `remember` of the block reads all its cells.
     ///
-    /// Cost: constant, except that a put beyond the last place of all earlier puts also writes the places between. All
-    /// these writes together cover the table once at most.
+    /// Cost: a put beyond the last place of all earlier puts also writes the places between. All these writes together
+    /// cover the table once at most.
     #[inline(always)]
     pub fn put(&mut self, cell: Cell, kept: Kept) -> Kept
         ensures shown { shown_at self.new ≡ with_value (shown_at self.old) cell (value_of kept) }

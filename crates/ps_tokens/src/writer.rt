@@ -76,7 +76,7 @@ fn put_spelling(out: &mut Vec<u8>, token: &Token) -> Result<(), Refusal>
 
 /// Appends the canonical spelling of the token to `out`. Refused only when out of memory; `out` is then unchanged.
 ///
-/// Cost: constant, apart from growing `out`.
+/// Cost: that of growing `out`.
 pub fn put_token(out: &mut Vec<u8>, token: &Token) -> Result<(), Refusal>
     ensures ok { OnOk result (out.new.items ≡ out.old.items ++ token_text token.now) }
     ensures err { OnErr result (out.new.items ≡ out.old.items) }
