@@ -73,12 +73,12 @@ pub fn check_on<R: Net<Stream = TcpStream>, K: Sink>(
     options: JoinOptions,
     out: &mut K,
 ) -> Result<u8, ProgramFault>
-    ensures told { IfOk result (λ status. (from : ℕ) × (to : ℕ) × (cells : List ℕ) × AreCompared from to cells
+    ensures printed { IfOk result (λ status. (from : ℕ) × (to : ℕ) × (cells : List ℕ) × AreCompared from to cells
         × Appends (K.contents out.old) (K.contents out.new) (step_text from to cells)
         × (status ≡ step_status cells)) }
     ensures flushed { OnOk result (K.waiting out.new ≡ []) }
     ensures calm { OnOk result (K.failures out.new ≡ K.failures out.old) }
-    ensures untold { IfErr result (λ f. (out.new ≡ out.old)
+    ensures unprinted { IfErr result (λ f. (out.new ≡ out.old)
         ⊎ ((f ≡ Refused Refusal.Device) × (K.failures out.old < K.failures out.new))) }
     ensures stopped { IfErr result (λ f. HasNoPort options.from f ⊎ HasNoPort options.to f
         ⊎ (f ≡ Refused Refusal.Memory) ⊎ IsCheckFault f ⊎ (K.failures out.old < K.failures out.new)) }

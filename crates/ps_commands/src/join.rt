@@ -69,10 +69,10 @@ pub fn join_once_on<R: Net<Stream = TcpStream>, K: Sink>(
     out: &mut K,
 ) -> Result<(), ProgramFault>
     ensures joined { OnOk result AreJoined }
-    ensures told { OnOk result (Appends (K.contents out.old) (K.contents out.new) joined_text) }
+    ensures printed { OnOk result (Appends (K.contents out.old) (K.contents out.new) joined_text) }
     ensures flushed { OnOk result (K.waiting out.new ≡ []) }
     ensures calm { OnOk result (K.failures out.new ≡ K.failures out.old) }
-    ensures untold { IfErr result (λ f. (out.new ≡ out.old)
+    ensures unprinted { IfErr result (λ f. (out.new ≡ out.old)
         ⊎ ((f ≡ Refused Refusal.Device) × (K.failures out.old < K.failures out.new))) }
     ensures stopped { IfErr result (λ f. HasNoPort options.from f ⊎ HasNoPort options.to f
         ⊎ (f ≡ Refused Refusal.Memory) ⊎ IsJoinFault f ⊎ (K.failures out.old < K.failures out.new)) }
@@ -185,9 +185,9 @@ fn join_again<R: Net<Stream = TcpStream> + Clock, W: Write + Drop>(
 /// `join_on` pauses, and connects to both ports again. The first pause takes 0.1 seconds, and each further one twice as
 /// long, up to 10 seconds. Once both replicas have the same changes, the next pause takes 0.1 seconds again.
 ///
-/// `told` gets a line when both replicas have the same changes over new connections, and a line with the reason when an
-/// end is lost. No line about a lost end is written twice before both have the same changes again, except after 64
-/// different ones or when out of memory.
+/// `messages` gets a line when both replicas have the same changes over new connections, and a line with the reason
+/// when an end is lost. No line about a lost end is written twice before both have the same changes again, except after
+/// 64 different ones or when out of memory.
 ///
 /// # Errors
 ///
@@ -199,11 +199,11 @@ pub fn join_on<R: Net<Stream = TcpStream> + Clock, W: Write + Drop>(
     ports: Ports<'_, R>,
     alloc: Global,
     options: JoinOptions,
-    told: W,
+    messages: W,
 ) -> ProgramFault
     ensures { (result ≡ Refused Refusal.Memory) ⊎ (result ≡ Refused Refusal.Device) }
 {
-    let mut progress = Progress::new(alloc, told);
+    let mut progress = Progress::new(alloc, messages);
     let Ending { fault, .. } = join_again(ports, alloc, options, &mut progress);
     fault
 }

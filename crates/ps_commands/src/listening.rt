@@ -69,7 +69,7 @@ fn server_options<'a>(listener: &'a TcpListener, options: ServeOptions<'a>) -> S
 
 /// Writes `listening` and the port. Refused as `Device` where the output fails.
 fn tell_listening<K: Sink>(port: u16, out: &mut K) -> Result<(), ProgramFault>
-    ensures told { OnOk result (Appends (K.contents out.old) (K.contents out.new) (listening_text port)) }
+    ensures printed { OnOk result (Appends (K.contents out.old) (K.contents out.new) (listening_text port)) }
     ensures flushed { OnOk result (K.waiting out.new ≡ []) }
     ensures calm { OnOk result (K.failures out.new ≡ K.failures out.old) }
     ensures failed { OnErr result (K.failures out.old < K.failures out.new) }
@@ -80,7 +80,7 @@ fn tell_listening<K: Sink>(port: u16, out: &mut K) -> Result<(), ProgramFault>
 
 /// Writes `closed` and the version of the sheet that a server closed. Refused as `Device` where the output fails.
 fn tell_closed<K: Sink>(sheet: &Sheet, out: &mut K) -> Result<(), ProgramFault>
-    ensures told { OnOk result (Appends (K.contents out.old) (K.contents out.new)
+    ensures printed { OnOk result (Appends (K.contents out.old) (K.contents out.new)
         (closed_text (length sheet.now.history))) }
     ensures flushed { OnOk result (K.waiting out.new ≡ []) }
     ensures calm { OnOk result (K.failures out.new ≡ K.failures out.old) }
@@ -91,8 +91,8 @@ fn tell_closed<K: Sink>(sheet: &Sheet, out: &mut K) -> Result<(), ProgramFault>
 }
 
 /// Writes the address of the page of the server on this port. What can't be written, or has no memory, is lost.
-fn tell_page<W: Write>(alloc: Global, port: u16, told: &mut W) {
-    tell_line(alloc, &PageAddress { port }, told);
+fn tell_page<W: Write>(alloc: Global, port: u16, messages: &mut W) {
+    tell_line(alloc, &PageAddress { port }, messages);
 }
 
 /// Serves sessions over TCP on a new, empty sheet, as [`serve_in_memory`] does, and returns the closed sheet.
@@ -101,7 +101,7 @@ fn tell_page<W: Write>(alloc: Global, port: u16, told: &mut W) {
 /// sessions have ended, it writes `closed` and the sheet's version. If `options.sessions` is `None`, it serves until
 /// the program is stopped.
 ///
-/// `told` gets the address of the sheet's page, and a warning if connections can't be accepted for now.
+/// `messages` gets the address of the sheet's page, and a warning if connections can't be accepted for now.
 ///
 /// # Errors
 ///
@@ -119,16 +119,16 @@ pub fn serve<
     resources: Resources<'_, R>,
     options: ServeOptions<'_>,
     out: &mut K,
-    mut told: W,
+    mut messages: W,
 ) -> Result<Closed, ProgramFault>
     ensures asked { IfOk result (λ closed. options.entry.sessions ≡ Some closed.sessions) }
     ensures served { IfOk result (λ closed. (first : SheetView) × IsOpened options.entry.sheet.replica first
         × IsServed options.entry.seats closed.sessions first closed.sheet) }
-    ensures told { IfOk result (λ closed. Appends (K.contents out.old) (K.contents out.new)
+    ensures printed { IfOk result (λ closed. Appends (K.contents out.old) (K.contents out.new)
         (listening_text options.entry.port ++ closed_text (length closed.sheet.history))) }
     ensures flushed { OnOk result (K.waiting out.new ≡ []) }
     ensures calm { OnOk result (K.failures out.new ≡ K.failures out.old) }
-    ensures untold { IfErr result (λ f. (out.new ≡ out.old)
+    ensures unprinted { IfErr result (λ f. (out.new ≡ out.old)
         ⊎ (Appends (K.contents out.old) (K.contents out.new) (listening_text options.entry.port)
         × (K.waiting out.new ≡ []) × (K.failures out.new ≡ K.failures out.old))
         ⊎ ((f ≡ Refused Device) × (K.failures out.old < K.failures out.new))) }
@@ -141,8 +141,8 @@ pub fn serve<
         Ok(()) => {}
         Err(fault) => return Err(fault),
     }
-    tell_page(resources.alloc, options.port, &mut told);
-    let mut warner = Warner::of_connections(resources.alloc, told);
+    tell_page(resources.alloc, options.port, &mut messages);
+    let mut warner = Warner::of_connections(resources.alloc, messages);
     let closed = serve_in_memory(
         resources,
         server_options(&listener, options),
@@ -162,7 +162,7 @@ pub fn serve<
 /// `out`. Once `options.sessions` sessions have ended, it writes `closed` and the sheet's version. If
 /// `options.sessions` is `None`, it serves until the program is stopped.
 ///
-/// `told` gets the address of the sheet's page, the opened file's path, and the warnings of a [`Warner`].
+/// `messages` gets the address of the sheet's page, the opened file's path, and the warnings of a [`Warner`].
 ///
 /// `name.path` is the path of `options.keep`. It is a parameter of its own, so that nobody can call this without a
 /// file.
@@ -191,7 +191,7 @@ pub fn serve_kept<
     options: ServeOptions<'_>,
     name: KeptName<'_>,
     out: &mut K,
-    mut told: W,
+    mut messages: W,
     meter: &mut Meter<L>,
 ) -> Result<Closed<Journal<DigestedDevice<KeptFile>>>, ProgramFault>
     ensures asked { IfOk result (λ closed. options.entry.sessions ≡ Some closed.sessions) }
@@ -199,11 +199,11 @@ pub fn serve_kept<
         × IsServed options.entry.seats closed.sessions first closed.sheet) }
     ensures kept { IfOk result (λ closed. TellHistory closed.sheet.replica closed.journal.kept closed.sheet.history) }
     ensures journal { IfOk result (λ closed. IsJournal closed.journal) }
-    ensures told { IfOk result (λ closed. Appends (K.contents out.old) (K.contents out.new)
+    ensures printed { IfOk result (λ closed. Appends (K.contents out.old) (K.contents out.new)
         (listening_text options.entry.port ++ closed_text (length closed.sheet.history))) }
     ensures flushed { OnOk result (K.waiting out.new ≡ []) }
     ensures calm { OnOk result (K.failures out.new ≡ K.failures out.old) }
-    ensures untold { IfErr result (λ f. (out.new ≡ out.old)
+    ensures unprinted { IfErr result (λ f. (out.new ≡ out.old)
         ⊎ (Appends (K.contents out.old) (K.contents out.new) (listening_text options.entry.port)
         × (K.waiting out.new ≡ []) × (K.failures out.new ≡ K.failures out.old))
         ⊎ ((f ≡ Refused Device) × (K.failures out.old < K.failures out.new))) }
@@ -215,8 +215,8 @@ pub fn serve_kept<
         Ok(()) => {}
         Err(fault) => return Err(fault),
     }
-    tell_page(resources.alloc, options.port, &mut told);
-    let mut warner = tell_opened(resources.alloc, name.path, &sheet, told);
+    tell_page(resources.alloc, options.port, &mut messages);
+    let mut warner = tell_opened(resources.alloc, name.path, &sheet, messages);
     let journal = keeper.into_journal();
     let asked = server_options(&listener, options);
     let closed = match serve_with_journal(resources, asked, sheet, journal, &mut warner) {

@@ -14,7 +14,7 @@ use std::io::Write;
 
 /// Writes a word with its space, a number and a line feed, and flushes the sink. Fails as `Device` if the sink fails.
 pub(crate) fn tell<K: Sink>(word: &[u8], number: u64, out: &mut K) -> Result<(), ProgramFault>
-    ensures told { OnOk result (Appends (K.contents out.old) (K.contents out.new) (notice word.now number)) }
+    ensures printed { OnOk result (Appends (K.contents out.old) (K.contents out.new) (notice word.now number)) }
     ensures flushed { OnOk result (K.waiting out.new ≡ []) }
     ensures calm { OnOk result (K.failures out.new ≡ K.failures out.old) }
     ensures failed { OnErr result (K.failures out.old < K.failures out.new) }
@@ -25,7 +25,7 @@ pub(crate) fn tell<K: Sink>(word: &[u8], number: u64, out: &mut K) -> Result<(),
 
 /// Writes a whole line, and flushes the sink. Fails as `Device` if the sink fails.
 pub(crate) fn tell_whole<K: Sink>(line: &[u8], out: &mut K) -> Result<(), ProgramFault>
-    ensures told { OnOk result (Appends (K.contents out.old) (K.contents out.new) line.now) }
+    ensures printed { OnOk result (Appends (K.contents out.old) (K.contents out.new) line.now) }
     ensures flushed { OnOk result (K.waiting out.new ≡ []) }
     ensures calm { OnOk result (K.failures out.new ≡ K.failures out.old) }
     ensures failed { OnErr result (K.failures out.old < K.failures out.new) }
@@ -43,7 +43,7 @@ pub(crate) fn tell_between<K: Sink>(
     last: &[u8],
     out: &mut K,
 ) -> Result<(), ProgramFault>
-    ensures told { OnOk result (Appends (K.contents out.old) (K.contents out.new)
+    ensures printed { OnOk result (Appends (K.contents out.old) (K.contents out.new)
         (first.now ++ decimal number ++ last.now)) }
     ensures flushed { OnOk result (K.waiting out.new ≡ []) }
     ensures calm { OnOk result (K.failures out.new ≡ K.failures out.old) }

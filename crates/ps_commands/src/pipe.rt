@@ -165,8 +165,8 @@ fn pipe<S: Source + Drop, K: Sink + Drop, W: Write + Drop, I: Ledger, O: Ledger>
 /// merged first.
 ///
 /// It connects to `options.port` of this machine once, and not again. Without `options.once` it only ends with an
-/// error. With `options.once` it ends once each replica has all that the other one had. `told` gets a line when both
-/// have the same changes, and without `options.once` a line that says which end is lost.
+/// error. With `options.once` it ends once each replica has all that the other one had. `messages` gets a line when
+/// both have the same changes, and without `options.once` a line that says which end is lost.
 ///
 /// # Errors
 ///
@@ -182,7 +182,7 @@ pub fn join_pipe_on<R: Net<Stream = TcpStream>, S: Source + Drop, K: Sink + Drop
     options: PipeOptions,
     input: Input<S>,
     out: K,
-    told: W,
+    messages: W,
 ) -> Result<(), ProgramFault>
     ensures joined { OnOk result ((options.once ≡ true)
         × ArePiped options.is_first (S.remaining input.source) (K.contents out)) }
@@ -199,7 +199,7 @@ pub fn join_pipe_on<R: Net<Stream = TcpStream>, S: Source + Drop, K: Sink + Drop
     let is_first = options.is_first;
     let mut lookout = PipeLookout {
         poller,
-        progress: Progress::new(alloc, told),
+        progress: Progress::new(alloc, messages),
         piped: Piped {
             is_first,
             port: options.port,

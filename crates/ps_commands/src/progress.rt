@@ -96,21 +96,21 @@ impl<W: Write + Drop> Progress<W> {
 
     /// Tells that all there was is exchanged. The next pause is the first one again, and each line about a lost end is
     /// due again.
-    pub(crate) fn succeeded<T: fmt::Display>(&mut self, told: &T)
+    pub(crate) fn succeeded<T: fmt::Display>(&mut self, message: &T)
         ensures lines { self.new.lines.items ≡ [] }
         ensures pause { self.new.pause ≡ FIRST_PAUSE }
     {
         self.lines.clear();
         self.pause = FIRST_PAUSE;
-        self.tell(told);
+        self.tell(message);
     }
 
     /// Tells this.
-    pub(crate) fn tell<T: fmt::Display>(&mut self, told: &T)
+    pub(crate) fn tell<T: fmt::Display>(&mut self, message: &T)
         ensures lines { self.new.lines ≡ self.old.lines }
         ensures pause { self.new.pause ≡ self.old.pause }
     {
-        tell_line(self.alloc, told, &mut self.out);
+        tell_line(self.alloc, message, &mut self.out);
     }
 
     /// Tells which end is lost and how, unless that line was written since both were joined.

@@ -80,12 +80,12 @@ fn relay_anew<R: Net<Stream = TcpStream>, S: Source + Drop, W: Write + Drop, K: 
 
 /// Merges the merge lines of `input` (`merge` and a delta) at the replica at a port of this machine, and writes the
 /// replica's other changes to `out`, as merge lines. A merge line that the replica refuses, and any other line that
-/// isn't empty, is skipped and reported on `told`.
+/// isn't empty, is skipped and reported on `messages`.
 ///
 /// It ends once the input has ended and all is merged and written. If the connection is lost or a request refused,
 /// `relay_on` pauses, connects again as [`join_on`](crate::join_on) does, and writes all of the replica's changes
-/// again. With `options.once` it ends instead. `told` also gets a line when all is exchanged for the first time over a
-/// connection, and a line when a connection is lost.
+/// again. With `options.once` it ends instead. `messages` also gets a line when all is exchanged for the first time
+/// over a connection, and a line when a connection is lost.
 ///
 /// # Errors
 ///
@@ -102,7 +102,7 @@ pub fn relay_on<R: Net<Stream = TcpStream> + Clock, S: Source + Drop, K: Sink, W
     options: RelayOptions,
     input: Input<S>,
     out: &mut K,
-    told: W,
+    messages: W,
 ) -> Result<(), ProgramFault>
     ensures relayed { OnOk result ((losses : ℕ) × (middle : Option (List ℕ))
         × AreTried losses (K.contents out.old) middle × IsThroughWith middle (K.contents out.new)) }
@@ -111,7 +111,7 @@ pub fn relay_on<R: Net<Stream = TcpStream> + Clock, S: Source + Drop, K: Sink, W
     let Some(poller) = Poller::open(ports.rt, alloc, file) else {
         return Err(ProgramFault::Refused(Refusal::Device));
     };
-    let progress = Progress::new(alloc, told);
+    let progress = Progress::new(alloc, messages);
     let mut inlet = Inlet::new(alloc, source, poller, progress, options.server)?;
     let mut losses = 0u64;
     'losses: while losses < u64::MAX {

@@ -153,20 +153,20 @@ impl fmt::Display for LostParts {
     }
 }
 
-/// Writes to `told` how many lines `options.until` left out, and from how many cells `options.without` left out a part.
-/// It writes one line for each of the two options that is given. A line is lost if it can't be written, or if
+/// Writes to `messages` how many lines `options.until` left out, and from how many cells `options.without` left out a
+/// part. It writes one line for each of the two options that is given. A line is lost if it can't be written, or if
 /// allocation fails.
 pub fn tell_left_out<W: Write>(
     alloc: Global,
     options: SquashOptions<'_>,
     left_out: LeftOut,
-    told: &mut W,
+    messages: &mut W,
 ) {
     if options.until.is_some() {
-        tell_line(alloc, &LostLines(left_out), told);
+        tell_line(alloc, &LostLines(left_out), messages);
     }
     if options.without.is_some() {
-        tell_line(alloc, &LostParts(left_out), told);
+        tell_line(alloc, &LostParts(left_out), messages);
     }
 }
 
@@ -222,7 +222,8 @@ fn replica_told(alloc: Global, bytes: &[u8]) -> Result<u8, AllocError>
     }
 }
 
-/// Squashes a kept file in its place, as [`shorten`] does, and writes its number of changes before and after to `told`.
+/// Squashes a kept file in its place, as [`shorten`] does, and writes its number of changes before and after to
+/// `messages`.
 ///
 /// # Errors
 ///
@@ -240,7 +241,7 @@ pub fn squash_kept<R: Files<File = File> + Threads + Sync, L: Ledger, W: Write>(
     resources: Resources<'_, R>,
     path: &str,
     meter: &mut Meter<L>,
-    told: &mut W,
+    messages: &mut W,
 ) -> Result<(), ProgramFault> {
     let Resources { threads, alloc } = resources;
     // (opened, it would be made)
@@ -269,7 +270,7 @@ pub fn squash_kept<R: Files<File = File> + Threads + Sync, L: Ledger, W: Write>(
     };
     match shorten(threads, alloc, &mut file, asked, meter) {
         Ok(changes) => {
-            tell_line(alloc, &SquashedFile { path, changes }, told);
+            tell_line(alloc, &SquashedFile { path, changes }, messages);
             Ok(())
         }
         Err(fault) => Err(not_squashed(alloc, name, &numbers, fault)),

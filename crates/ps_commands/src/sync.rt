@@ -60,10 +60,11 @@ pub fn sync_on<R: Net<Stream = TcpStream>, K: Sink>(
     out: &mut K,
 ) -> Result<(), ProgramFault>
     ensures synced { OnOk result AreSynced }
-    ensures told { OnOk result ((lines : ℕ) × Appends (K.contents out.old) (K.contents out.new) (synced_text lines)) }
+    ensures printed { OnOk result ((lines : ℕ)
+        × Appends (K.contents out.old) (K.contents out.new) (synced_text lines)) }
     ensures flushed { OnOk result (K.waiting out.new ≡ []) }
     ensures calm { OnOk result (K.failures out.new ≡ K.failures out.old) }
-    ensures untold { IfErr result (λ f. (out.new ≡ out.old)
+    ensures unprinted { IfErr result (λ f. (out.new ≡ out.old)
         ⊎ ((f ≡ Refused Refusal.Device) × (K.failures out.old < K.failures out.new))) }
     ensures stopped { IfErr result (λ f. HasNoPort options.from f ⊎ HasNoPort options.to f
         ⊎ (f ≡ Refused Refusal.Memory) ⊎ IsSyncFault f ⊎ (K.failures out.old < K.failures out.new)) }

@@ -28,7 +28,7 @@ module _ (r : ℕ) (h : List Entries) (old new : PassView) (took : Took h old ne
       legal = took.legal;
       receipt = record { number = number; delta = receipt.0; fresh = fresh };
       appended = receipt.2;
-      told = refl;
+      replied = refl;
       counted = counted;
       entered = took.same.1;
     },
@@ -44,12 +44,12 @@ module _ (r : ℕ) (h : List Entries) (old new : PassView) (took : Took h old ne
       × GoesOn old new
   unedited edit e counted refused asked = (
     ⊎_elim
-        (λ memory. inr (record { some = asked memory; told = ap refusal_text memory; counted = counted }))
+        (λ memory. inr (record { some = asked memory; replied = ap refusal_text memory; counted = counted }))
         (λ is. inl (inr (record {
           legal = took.legal;
           refusal = e;
           refused = is;
-          told = refl;
+          replied = refl;
           counted = counted;
           entered = took.same.1;
         })))
@@ -68,7 +68,7 @@ module _ (r : ℕ) (h : List Entries) (old new : PassView) (took : Took h old ne
       legal = took.legal;
       receipt = record { number = number; delta = receipt.0; fresh = fresh };
       tells = receipt.2;
-      told = refl;
+      replied = refl;
       counted = counted;
       entered = took.same.1;
     },
@@ -86,7 +86,7 @@ module _ (r : ℕ) (h : List Entries) (old new : PassView) (took : Took h old ne
       legal = took.legal;
       receipt = record { number = number; delta = receipt.0; fresh = fresh };
       tells = receipt.2;
-      told = ap merged_text is;
+      replied = ap merged_text is;
       counted = counted;
       entered = took.same.1;
     },

@@ -6,16 +6,16 @@ use Rattle.ps_delta.specs.Deltas.{Entries}
 use Rattle.ps_face.specs.Legal.{history_of}
 use Rattle.ps_session.specs.Answers.{TakesMemory}
 use Rattle.ps_session.specs.Boards.{BoardAnswers, Obeyed}
-use Rattle.ps_lines.specs.PullReplies.{HandsOn}
+use Rattle.ps_lines.specs.PullReplies.{RepliesWith}
 use Rattle.ps_lines.specs.Commands.{Read, ReadsLine}
 use Rattle.ps_lines.specs.Replies.{refusal_text, replica_text}
 use Rattle.ps_lines.specs.declared.command.Command.{Command}
 use Rattle.ps_lines.specs.declared.command.Command.TheVariants.{Edit, Entries as AllEntries, Entry, Get, Merge}
 use Rattle.ps_lines.specs.declared.command.Command.TheVariants.{Pull, Push, Replica, Rows, Wait}
 use Rattle.ps_session.proofs.AnswerLemmas.{memory_or_other}
-use Rattle.ps_lines.proofs.PulledDeltas.{hands_out}
+use Rattle.ps_lines.proofs.PulledDeltas.{pull_reply}
 use Rattle.ps_desk.specs.Passes.{PassView}
-use Rattle.ps_desk.specs.Seats.{GoesOn, IsHandedOut, IsLacking, SeatAnswers, SeatCalls, SeatObeys, SeatPulls}
+use Rattle.ps_desk.specs.Seats.{GoesOn, IsLacking, IsReturned, SeatAnswers, SeatCalls, SeatObeys, SeatPulls}
 use Rattle.ps_desk.proofs.SeatRuns.{goes_itself, goes_on}
 
 module _ (r : ℕ) (h : List Entries) where
@@ -45,7 +45,7 @@ module _ (r : ℕ) (h : List Entries) where
     | inl is ↦ inr (record {
       asked = Err refusal;
       reads = reads;
-      lacks = record { some = is; told = ap refusal_text is; counted = refl };
+      lacks = record { some = is; replied = ap refusal_text is; counted = refl };
       goes_on = goes_itself pass;
     })
     | inr other ↦ inl (record {
@@ -64,30 +64,30 @@ module _ (r : ℕ) (h : List Entries) where
 
   -- the reply to a pull follows from the deltas, at least one, or the refusal that the call returned
   pulled : (old new : PassView) (from most : ℕ) (text : List ℕ) (answer : Read (List Entries))
-      → SeatPulls h old from (max most 1) answer new → HandsOn from most answer text
-      → IsHandedOut h from most old text new
+      → SeatPulls h old from (max most 1) answer new → RepliesWith from most answer text
+      → IsReturned h from most old text new
       ⊎ IsLacking (from < length (history_of h new.list)) old text new
-  pulled old new from most text (Ok deltas) call hands =
+  pulled old new from most text (Ok deltas) call replied =
       let p = call.0 in
-      elim (hands_out (history_of h new.list) from most (max most 1) deltas text p.part p.there (omega arith)
-      (omega arith) hands) [
-        | inl out ↦ inl (record { legal = p.legal; hands = out; counted = p.counted; entered = p.entered })
-        | inr lacks ↦ inr (record { some = lacks.0; told = lacks.1; counted = p.counted })
+      elim (pull_reply (history_of h new.list) from most (max most 1) deltas text p.part p.there (omega arith)
+      (omega arith) replied) [
+        | inl out ↦ inl (record { legal = p.legal; replied = out; counted = p.counted; entered = p.entered })
+        | inr lacks ↦ inr (record { some = lacks.0; replied = lacks.1; counted = p.counted })
       ]
-  pulled old new from most text (Err refusal) call hands =
+  pulled old new from most text (Err refusal) call replied =
       let p = call.0 in
       elim p.cause [
         | inl beyond ↦ inl (record {
           legal = p.legal;
-          hands = record {
-            beyond = λ _. hands ∙ ap refusal_text beyond.0;
+          replied = record {
+            beyond = λ _. replied ∙ ap refusal_text beyond.0;
             at_end = λ at. absurd (omega (arith, at, beyond.1));
             before_end = λ lt. absurd (omega (arith, lt, beyond.1));
           };
           counted = p.counted;
           entered = p.entered;
         })
-        | inr lacks ↦ inr (record { some = lacks.1; told = hands ∙ ap refusal_text lacks.0; counted = p.counted })
+        | inr lacks ↦ inr (record { some = lacks.1; replied = replied ∙ ap refusal_text lacks.0; counted = p.counted })
       ]
 
   went : (old new : PassView) (from most : ℕ) (answer : Read (List Entries)) → SeatPulls h old from most answer new

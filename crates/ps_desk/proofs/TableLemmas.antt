@@ -91,9 +91,9 @@ tabled h old new a values w (Ok t) in_grid legal shows same text memory counted 
       legal = legal;
       values = shows.0;
       settled = shows.1;
-      told = ap (rows_text a.height) (text ∙ table_of_values shows.0 w values a in_grid shows.2 same);
+      replied = ap (rows_text a.height) (text ∙ table_of_values shows.0 w values a in_grid shows.2 same);
       counted = counted;
       entered = entered;
     }))
 tabled h old new a values w (Err e) in_grid legal shows same text memory counted entered =
-    inr (record { some = tt; told = ap refusal_text memory; counted = counted })
+    inr (record { some = tt; replied = ap refusal_text memory; counted = counted })

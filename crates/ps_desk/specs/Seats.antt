@@ -16,10 +16,10 @@ use Rattle.ps_delta.specs.declared.edit.Edit.{Edit as SheetEdit}
 use Rattle.ps_csv.specs.Exports.{Holdings, entry_text, exported, exported_entries, held_in}
 use Rattle.ps_face.specs.Legal.{IsLegal, history_of}
 use Rattle.ps_session.specs.Answers.{TakesMemory}
-use Rattle.ps_session.specs.Boards.{Calls, merged_text, told}
+use Rattle.ps_session.specs.Boards.{Calls, answer_text, merged_text}
 use Rattle.ps_session.specs.declared.board.Merged.{Merged}
 use Rattle.ps_lines.specs.Commands.{Read, ReadsLine}
-use Rattle.ps_lines.specs.PullReplies.{HandsOut}
+use Rattle.ps_lines.specs.PullReplies.{IsPullReply}
 use Rattle.ps_lines.specs.Replies.{done_text, entries_reply, entry_reply, refusal_text, replica_text, rows_text}
 use Rattle.ps_lines.specs.Replies.{value_text, version_text}
 use Rattle.ps_lines.specs.Streams.{Answering, Lines}
@@ -36,7 +36,7 @@ pub record IsEdited (r : ℕ) (h : List Entries) (edit : SheetEdit) (old : PassV
   pub legal : IsLegal h new.list
   pub receipt : ReceiptView
   pub appended : IsAppended (λ s d. delta_of_edit r s edit ≡ Ok d) h old.list new.list old.seat receipt
-  pub told : text ≡ done_text receipt.number
+  pub replied : text ≡ done_text receipt.number
   pub counted : new.appended ≡ old.appended + 1
   pub entered : new.enters ≡ old.enters
 
@@ -46,7 +46,7 @@ pub record IsRefused (r : ℕ) (h : List Entries) (edit : SheetEdit) (old : Pass
   pub legal : IsLegal h new.list
   pub refusal : Refusal
   pub refused : delta_of_edit r (joined_history (history_of h new.list)) edit ≡ Err refusal
-  pub told : text ≡ refusal_text refusal
+  pub replied : text ≡ refusal_text refusal
   pub counted : new.appended ≡ old.appended
   pub entered : new.enters ≡ old.enters
 
@@ -57,13 +57,13 @@ pub record IsLook (h : List Entries) (reply : Assignment → List ℕ) (old : Pa
   pub legal : IsLegal h new.list
   pub values : Assignment
   pub settled : IsSettled (joined_history (history_of h new.list)) values
-  pub told : text ≡ reply values
+  pub replied : text ≡ reply values
   pub counted : new.appended ≡ old.appended
   pub entered : new.enters ≡ old.enters + 1
 
 -- the published copies are gone, and nothing was read
 pub record IsGone (old : PassView) (text : List ℕ) (new : PassView) : Type 0 where
-  pub told : text ≡ refusal_text refusals.Seat
+  pub replied : text ≡ refusal_text refusals.Seat
   pub same : new.list ≡ old.list
   pub counted : new.appended ≡ old.appended
 
@@ -71,15 +71,15 @@ pub record IsGone (old : PassView) (text : List ℕ) (new : PassView) : Type 0 w
 pub record IsHeld (h : List Entries) (reply : Holdings → List ℕ) (old : PassView) (text : List ℕ) (new : PassView) :
     Type 0 where
   pub legal : IsLegal h new.list
-  pub told : text ≡ reply (held_in (history_of h new.list))
+  pub replied : text ≡ reply (held_in (history_of h new.list))
   pub counted : new.appended ≡ old.appended
   pub entered : new.enters ≡ old.enters
 
 -- the reply answers a pull from the whole published history
-pub record IsHandedOut (h : List Entries) (from most : ℕ) (old : PassView) (text : List ℕ) (new : PassView) : Type 0
+pub record IsReturned (h : List Entries) (from most : ℕ) (old : PassView) (text : List ℕ) (new : PassView) : Type 0
   where
     pub legal : IsLegal h new.list
-    pub hands : HandsOut (history_of h new.list) from most text
+    pub replied : IsPullReply (history_of h new.list) from most text
     pub counted : new.appended ≡ old.appended
     pub entered : new.enters ≡ old.enters
 
@@ -89,7 +89,7 @@ pub record IsTakenIn (h : List Entries) (delta : Entries) (old : PassView) (text
     pub legal : IsLegal h new.list
     pub receipt : ReceiptView
     pub tells : IsReceipt (λ s d. d ≡ delta) h old.list new.list old.seat receipt
-    pub told : text ≡ done_text receipt.number
+    pub replied : text ≡ done_text receipt.number
     pub counted : new.appended ≡ old.appended + (if receipt.fresh then 1 else 0)
     pub entered : new.enters ≡ old.enters
 
@@ -100,7 +100,7 @@ pub record IsMergedIn (h : List Entries) (delta : Entries) (old : PassView) (tex
     pub legal : IsLegal h new.list
     pub receipt : ReceiptView
     pub tells : IsReceipt (λ s d. IsMergedAs s delta d) h old.list new.list old.seat receipt
-    pub told : text ≡ merged_text (merged_of receipt.number receipt.fresh)
+    pub replied : text ≡ merged_text (merged_of receipt.number receipt.fresh)
     pub counted : new.appended ≡ old.appended + (if receipt.fresh then 1 else 0)
     pub entered : new.enters ≡ old.enters
 
@@ -121,7 +121,7 @@ SeatObeys r h (Ok (Rows first last)) old text new =
 SeatObeys r h (Ok (Entry cell)) old text new = IsHeld h (λ held. entry_reply (entry_text held cell)) old text new
 SeatObeys r h (Ok (AllEntries first last)) old text new = IsHeld h
     (λ held. entries_reply ((spanned first last).height) (exported_entries held (spanned first last))) old text new
-SeatObeys r h (Ok (Pull from most)) old text new = IsHandedOut h from (unwrap_or most 1) old text new
+SeatObeys r h (Ok (Pull from most)) old text new = IsReturned h from (unwrap_or most 1) old text new
 SeatObeys r h (Ok (Push delta)) old text new = IsTakenIn h delta old text new
 SeatObeys r h (Ok (Merge delta)) old text new = IsMergedIn h delta old text new
 SeatObeys r h (Ok (Replica named)) old text new = (new ≡ old) × (text ≡ replica_text r)
@@ -132,7 +132,7 @@ SeatObeys r h (Err refusal) old text new = (new ≡ old) × (text ≡ refusal_te
 -- memory ran out for a request that takes memory, and nothing was appended
 pub record IsLacking (takes : Type 0) (old : PassView) (text : List ℕ) (new : PassView) : Type 0 where
   pub some : takes
-  pub told : text ≡ refusal_text refusals.Memory
+  pub replied : text ≡ refusal_text refusals.Memory
   pub counted : new.appended ≡ old.appended
 
 -- GOES ON: what a pass has seen begins with what it had seen, it appended no less, and it has the same slot
@@ -160,44 +160,48 @@ pub record IsUnpulled (h : List Entries) (from : ℕ) (refusal : Refusal) (old n
 -- what each call of a `Seat` answers; each goes on from what the pass had seen
 abbrev pub SeatEdits : ℕ → List Entries → PassView → SheetEdit → Read ℕ → PassView → Type 0
 SeatEdits r h old edit answer new =
-    ((IsEdited r h edit old (told done_text answer) new ⊎ IsRefused r h edit old (told done_text answer) new)
-    ⊎ IsLacking (IsOk (delta_of_edit r (joined_history (history_of h new.list)) edit)) old (told done_text answer) new)
+    ((IsEdited r h edit old (answer_text done_text answer) new
+    ⊎ IsRefused r h edit old (answer_text done_text answer) new)
+    ⊎ IsLacking (IsOk (delta_of_edit r (joined_history (history_of h new.list)) edit)) old
+    (answer_text done_text answer) new)
     × GoesOn old new
 
 abbrev pub SeatReceives : List Entries → PassView → Entries → Read ℕ → PassView → Type 0
 SeatReceives h old delta answer new =
-    (IsTakenIn h delta old (told done_text answer) new ⊎ IsLacking ⊤ old (told done_text answer) new) × GoesOn old new
+    (IsTakenIn h delta old (answer_text done_text answer) new ⊎ IsLacking ⊤ old (answer_text done_text answer) new)
+    × GoesOn old new
 
 abbrev pub SeatMerges : List Entries → PassView → Entries → Read Merged → PassView → Type 0
 SeatMerges h old delta answer new =
-    (IsMergedIn h delta old (told merged_text answer) new ⊎ IsLacking ⊤ old (told merged_text answer) new)
+    (IsMergedIn h delta old (answer_text merged_text answer) new ⊎ IsLacking ⊤ old (answer_text merged_text answer) new)
     × GoesOn old new
 
 abbrev pub SeatShows : List Entries → PassView → ℕ → Read Value → PassView → Type 0
 SeatShows h old cell answer new =
-    (IsLook h (λ v. value_text (v cell)) old (told value_text answer) new ⊎ IsGone old (told value_text answer) new)
+    (IsLook h (λ v. value_text (v cell)) old (answer_text value_text answer) new
+    ⊎ IsGone old (answer_text value_text answer) new)
     × GoesOn old new
 
 abbrev pub Tabled : List Entries → PassView → Area → Read (List ℕ) → PassView → Type 0
 Tabled h old rect answer new =
-    (IsLook h (λ v. rows_text rect.height (exported v rect)) old (told (rows_text rect.height) answer) new
-    ⊎ IsGone old (told (rows_text rect.height) answer) new)
-    ⊎ IsLacking ⊤ old (told (rows_text rect.height) answer) new
+    (IsLook h (λ v. rows_text rect.height (exported v rect)) old (answer_text (rows_text rect.height) answer) new
+    ⊎ IsGone old (answer_text (rows_text rect.height) answer) new)
+    ⊎ IsLacking ⊤ old (answer_text (rows_text rect.height) answer) new
 
 abbrev pub SeatTables : List Entries → PassView → Area → Read (List ℕ) → PassView → Type 0
 SeatTables h old rect answer new = Tabled h old rect answer new × GoesOn old new
 
 abbrev pub SeatHolds : List Entries → PassView → ℕ → Read (List ℕ) → PassView → Type 0
 SeatHolds h old cell answer new =
-    (IsHeld h (λ held. entry_reply (entry_text held cell)) old (told entry_reply answer) new
-    ⊎ IsLacking ⊤ old (told entry_reply answer) new)
+    (IsHeld h (λ held. entry_reply (entry_text held cell)) old (answer_text entry_reply answer) new
+    ⊎ IsLacking ⊤ old (answer_text entry_reply answer) new)
     × GoesOn old new
 
 abbrev pub SeatLists : List Entries → PassView → Area → Read (List ℕ) → PassView → Type 0
 SeatLists h old rect answer new =
     (IsHeld h (λ held. entries_reply rect.height (exported_entries held rect)) old
-    (told (entries_reply rect.height) answer) new
-    ⊎ IsLacking ⊤ old (told (entries_reply rect.height) answer) new)
+    (answer_text (entries_reply rect.height) answer) new
+    ⊎ IsLacking ⊤ old (answer_text (entries_reply rect.height) answer) new)
     × GoesOn old new
 
 abbrev pub SeatPulls : List Entries → PassView → ℕ → ℕ → Read (List Entries) → PassView → Type 0

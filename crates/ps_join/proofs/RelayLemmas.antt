@@ -7,8 +7,8 @@ use Rattle.std.specs.List.{All, Contains}
 use Rattle.std.proofs.lemmas.List.Elements.{All-push, Contains-push}
 use Rattle.ps_device.proofs.DeviceLemmas.{Appends-append, Appends-nil}
 use Rattle.ps_join.specs.Joins.{IsUnwaited, IsWaited, merge_text}
-use Rattle.ps_join.specs.Relays.{ArePassed, AreOutside, Awaits, Brings, Course, Hands, HasAsked, HasRelayed, IsAt}
-use Rattle.ps_join.specs.Relays.{IsCutAt, IsHalted, IsHanded, IsOnward, IsTaken, IsThrough, IsUnhanded, MayAskNext}
+use Rattle.ps_join.specs.Relays.{ArePassed, AreOutside, Awaits, Brings, Course, HasAsked, HasRelayed, IsAt, IsCutAt}
+use Rattle.ps_join.specs.Relays.{IsHalted, IsOnward, IsTaken, IsThrough, IsUnwritten, IsWritten, MayAskNext, Writes}
 use Rattle.ps_join.specs.Relays.{Onward}
 use Rattle.ps_join.specs.Relays.{Passes, RelayView, Relays, moved_to, numbers_of, seen, takes, tells, unbegun}
 use Rattle.ps_join.specs.declared.bringing.Brought.{Brought}
@@ -57,19 +57,19 @@ passes_merged : (old new : Course) → Passes old new → old.merged ≡ new.mer
 passes_merged old new (inl p) = ap (λ course. course.merged) (sym p)
 passes_merged old new (inr p) = ap (λ course. course.merged) (sym p.1)
 
-passes_told : (old new : Course) → Passes old new → old.told ≡ new.told
-passes_told old new (inl p) = ap (λ course. course.told) (sym p)
-passes_told old new (inr p) = ap (λ course. course.told) (sym p.1)
+passes_written : (old new : Course) → Passes old new → old.written ≡ new.written
+passes_written old new (inl p) = ap (λ course. course.written) (sym p)
+passes_written old new (inr p) = ap (λ course. course.written) (sym p.1)
 
 module _ (first mid : RelayView) (course : Course) (r : HasRelayed first mid course) where
   -- one exchange more
-  asked_more : (last : RelayView) (next : Course) (request merged told : List ℕ)
+  asked_more : (last : RelayView) (next : Course) (request merged written : List ℕ)
       → IsReplied request mid.server last.server
-      → (Hands course last.server.line request next ⊎ IsThrough course last.server.line request next
+      → (Writes course last.server.line request next ⊎ IsThrough course last.server.line request next
       ⊎ Brings course last.server.line request next ⊎ Awaits course last.server.line request next)
-      → Consumes mid.to_come last.to_come merged → Appends mid.contents last.contents told
-      → next.merged ≡ course.merged ++ merged → next.told ≡ course.told ++ told → HasAsked first last next
-  asked_more last next request merged told replied step came sent is_merged is_told = record {
+      → Consumes mid.to_come last.to_come merged → Appends mid.contents last.contents written
+      → next.merged ≡ course.merged ++ merged → next.written ≡ course.written ++ written → HasAsked first last next
+  asked_more last next request merged written replied step came sent is_merged is_written = record {
     replies = r.asked.replies ++ last.server.line ∷ [];
     each = All-push HasNoFeed r.asked.replies last.server.line r.asked.each replied.one;
     read = subst (Consumes first.server.to_come last.server.to_come)
@@ -83,16 +83,16 @@ module _ (first mid : RelayView) (course : Course) (r : HasRelayed first mid cou
     came = subst (Consumes first.to_come last.to_come) (sym is_merged)
         (Consumes-append _ _ _ course.merged merged
         (subst (Consumes first.to_come mid.to_come) (passes_merged r.before course r.passes) r.asked.came) came);
-    sent = subst (Appends first.contents last.contents) (sym is_told)
-        (Appends-append _ _ _ course.told told
-        (subst (Appends first.contents mid.contents) (passes_told r.before course r.passes) r.asked.sent) sent);
+    sent = subst (Appends first.contents last.contents) (sym is_written)
+        (Appends-append _ _ _ course.written written
+        (subst (Appends first.contents mid.contents) (passes_written r.before course r.passes) r.asked.sent) sent);
   }
 
 -- at one position: what is relayed up to it, and is to come there
 module _ (first : RelayView) (old new : PeerView) (to_come before contents : Option (List ℕ)) (course : Course)
     (r : HasRelayed first (seen old to_come before) course) where
   -- a group, written
-  asked_group : (most last : ℕ) → IsHanded course.position most old new before contents (Some last)
+  asked_group : (most last : ℕ) → IsWritten course.position most old new before contents (Some last)
       → AreOutside course.numbers course.position last
       → (next : Course) × HasAsked first (seen new to_come contents) next × (next.position ≡ last)
       × (next.numbers ≡ course.numbers)
@@ -108,13 +108,13 @@ module _ (first : RelayView) (old new : PeerView) (to_come before contents : Opt
       )
 
   -- the end
-  asked_end : (most : ℕ) → IsHanded course.position most old new before contents None
+  asked_end : (most : ℕ) → IsWritten course.position most old new before contents None
       → HasAsked first (seen new to_come contents) course
   asked_end most h =
       asked_more first (seen old to_come before) course r (seen new to_come contents) course
       (pull_most course.position most) [] [] h.0 (inr (inl (most, refl, h.1, refl))) (Consumes-nil to_come)
       (subst (λ known. Appends before known []) (sym h.2) (Appends-nil before))
-      (sym (append-nil course.merged)) (sym (append-nil course.told))
+      (sym (append-nil course.merged)) (sym (append-nil course.written))
 
   -- a wait
   asked_wait : IsWaited course.position old new → HasAsked first (seen new to_come before) course
@@ -122,7 +122,7 @@ module _ (first : RelayView) (old new : PeerView) (to_come before contents : Opt
       asked_more first (seen old to_come before) course r (seen new to_come before) course
       (wait_text course.position ++ w.0) [] [] w.2.0
       (inr (inr (inr (w.0, w.1, refl, w.2.1, refl)))) (Consumes-nil to_come) (Appends-nil before)
-      (sym (append-nil course.merged)) (sym (append-nil course.told))
+      (sym (append-nil course.merged)) (sym (append-nil course.written))
 
   -- a merge
   asked_merge : (left : Option (List ℕ)) (delta : List ℕ) (brought : Brought) → IsReplied (merge_text delta) old new
@@ -132,7 +132,7 @@ module _ (first : RelayView) (old new : PeerView) (to_come before contents : Opt
       asked_more first (seen old to_come before) course r (seen new left before)
       (takes course delta (numbers_of brought)) (merge_text delta) (merge_text delta) [] replied
       (inr (inr (inl (delta, brought, refl, taken, refl)))) came (Appends-nil before) refl
-      (sym (append-nil course.told))
+      (sym (append-nil course.written))
 
   -- .. or where it breaks off
   halted : (fault : RelayFault) (held request : List ℕ) → MayAskNext course held request
@@ -178,17 +178,17 @@ module _ (position : ℕ) (numbers : List ℕ) (first : RelayView) (old new : Pe
   here_relayed = relayed first (seen old to_come before) o.course o.asked
 
   -- a group more
-  pub onward_group : (most last : ℕ) → IsHanded position most old new before contents (Some last)
+  pub onward_group : (most last : ℕ) → IsWritten position most old new before contents (Some last)
       → AreOutside numbers position last → IsOnward last numbers first (seen new to_come contents)
   onward_group most last h outside =
       let more = asked_group first old new to_come before contents o.course here_relayed most last
-      (subst (λ n. IsHanded n most old new before contents (Some last)) (sym o.here) h)
+      (subst (λ n. IsWritten n most old new before contents (Some last)) (sym o.here) h)
       (subst (λ n. AreOutside o.course.numbers n last) (sym o.here)
       (subst (λ ns. AreOutside ns position last) (sym o.same) outside)) in
       record { course = more.0; asked = more.1; here = more.2; same = more.3 ∙ o.same }
 
   -- the end, where there is to be more
-  pub onward_end : (most : ℕ) (fault : SyncFault) (held : List ℕ) → IsHanded position most old new before contents None
+  pub onward_end : (most : ℕ) (fault : SyncFault) (held : List ℕ) → IsWritten position most old new before contents None
       → IsHalted (faults.Server fault) held first (seen new to_come contents)
   onward_end most fault held h =
       halted first old new to_come before contents o.course here_relayed (faults.Server fault) held
@@ -199,7 +199,7 @@ module _ (position : ℕ) (numbers : List ℕ) (first : RelayView) (old new : Pe
 
   -- .. or it broke off
   pub onward_cut : (fault : RelayFault) (most : ℕ) (held : List ℕ)
-      → IsUnhanded fault position most old new before contents
+      → IsUnwritten fault position most old new before contents
       → AreOutside numbers position (position + most) → IsHalted fault held first (seen new to_come contents)
   onward_cut fault most held u outside =
       halted first old new to_come before contents o.course here_relayed fault held
@@ -213,11 +213,11 @@ module _ (position : ℕ) (numbers : List ℕ) (first : RelayView) (old new : Pe
 module _ (position : ℕ) (first : RelayView) (old new : PeerView) (to_come before contents : Option (List ℕ))
     (a : IsAt position first (seen old to_come before)) where
   -- a group more
-  pub at_group : (most last : ℕ) → IsHanded position most old new before contents (Some last)
+  pub at_group : (most last : ℕ) → IsWritten position most old new before contents (Some last)
       → position ≤ last → IsAt last first (seen new to_come contents)
   at_group most last h high =
       let more = asked_group first old new to_come before contents a.course a.relayed most last
-      (subst (λ n. IsHanded n most old new before contents (Some last)) (sym a.here) h)
+      (subst (λ n. IsWritten n most old new before contents (Some last)) (sym a.here) h)
       (passed_outside a.course last a.passed) in
       record {
         course = more.0;
@@ -236,14 +236,14 @@ module _ (position : ℕ) (first : RelayView) (old new : PeerView) (to_come befo
   }
 
   -- the end
-  pub at_end : (most : ℕ) → IsHanded position most old new before contents None
+  pub at_end : (most : ℕ) → IsWritten position most old new before contents None
       → IsAt position first (seen new to_come contents)
   at_end most h =
       at_same (asked_end first old new to_come before contents a.course a.relayed most
-      (subst (λ n. IsHanded n most old new before contents None) (sym a.here) h))
+      (subst (λ n. IsWritten n most old new before contents None) (sym a.here) h))
 
   -- .. or it broke off
-  pub at_cut : (fault : RelayFault) (most : ℕ) (held : List ℕ) → IsUnhanded fault position most old new before contents
+  pub at_cut : (fault : RelayFault) (most : ℕ) (held : List ℕ) → IsUnwritten fault position most old new before contents
       → IsHalted fault held first (seen new to_come contents)
   at_cut fault most held u =
       halted first old new to_come before contents a.course a.relayed fault held

@@ -21,29 +21,29 @@ pub record Side : Type 0 where
   -- how many of its changes, from the first on, were pulled or came from the other peer
   pub position : ℕ
   -- the delta lines that the peer returned to pulls, in order
-  pub handed : List (List ℕ)
+  pub returned : List (List ℕ)
   -- the delta lines that were merged at the peer, in order
   pub merged : List (List ℕ)
   -- whether the last pull had the reply `end`
   pub is_whole : Bool
 
 abbrev pub fresh : Side
-fresh = record { position = 0; handed = []; merged = []; is_whole = false }
+fresh = record { position = 0; returned = []; merged = []; is_whole = false }
 
 -- a side after the peer returned a group, up to this version
 abbrev pub gave : Side → List ℕ → ℕ → Side
 gave side delta last =
-    record { position = last; handed = side.handed ++ delta ∷ []; merged = side.merged; is_whole = false }
+    record { position = last; returned = side.returned ++ delta ∷ []; merged = side.merged; is_whole = false }
 
 -- .. after the peer's `end`
 abbrev pub ended : Side → Side
 ended side =
-    record { position = side.position; handed = side.handed; merged = side.merged; is_whole = true }
+    record { position = side.position; returned = side.returned; merged = side.merged; is_whole = true }
 
 -- .. after a delta was merged at the peer
 abbrev pub took : Side → List ℕ → ℕ → Side
 took side delta next =
-    record { position = next; handed = side.handed; merged = side.merged ++ delta ∷ []; is_whole = side.is_whole }
+    record { position = next; returned = side.returned; merged = side.merged ++ delta ∷ []; is_whole = side.is_whole }
 
 -- a change of this number moves the position if it is the very next one; else changes of others lie between
 abbrev pub Moves : ℕ → ℕ → ℕ → Type 0
@@ -99,8 +99,8 @@ pub record HasTalked (waits : Bool) (first last : PeerView) (side : Side) : Type
 pub record IsJoining (waits : Bool) (from0 from1 to0 to1 : PeerView) (from to : Side) : Type 0 where
   pub from_talked : HasTalked waits from0 from1 from
   pub to_talked : HasTalked waits to0 to1 to
-  pub there : to.merged ≡ from.handed
-  pub back : from.merged ≡ to.handed
+  pub there : to.merged ≡ from.returned
+  pub back : from.merged ≡ to.returned
 
 -- JOINED: all of `from` was pulled, and then all of `to`, whose `end` is the last reply
 pub record IsJoined (from0 from1 to0 to1 : PeerView) : Type 0 where
@@ -145,8 +145,8 @@ pub record IsStopped (waits : Bool) (end : End) (from0 from1 to0 to1 : PeerView)
   pub to_talked : HasTalked waits to0 to_middle to
   pub ahead : List (List ℕ)
   pub behind : List (List ℕ)
-  pub there : from.handed ≡ to.merged ++ ahead
-  pub back : to.handed ≡ from.merged ++ behind
+  pub there : from.returned ≡ to.merged ++ ahead
+  pub back : to.returned ≡ from.merged ++ behind
   pub one : length ahead + length behind ≤ 1
   pub broken : IsBrokenAt end (IsBroken waits from behind from_middle from1) (IsIdle waits from from_middle from1)
       (IsBroken waits to ahead to_middle to1) (IsIdle waits to to_middle to1)

@@ -25,10 +25,10 @@ pub record Course : Type 0 where
   -- the merge lines that came in and had a reply, in order
   pub merged : List ℕ
   -- the merge lines that were written, in order
-  pub told : List ℕ
+  pub written : List ℕ
 
 abbrev pub unbegun : Course
-unbegun = record { position = 0; numbers = []; merged = []; told = [] }
+unbegun = record { position = 0; numbers = []; merged = []; written = [] }
 
 -- a course after a group of changes was written, up to this number
 abbrev pub tells : Course → List ℕ → ℕ → Course
@@ -36,7 +36,7 @@ tells course delta last = record {
   position = last;
   numbers = course.numbers;
   merged = course.merged;
-  told = course.told ++ merge_text delta;
+  written = course.written ++ merge_text delta;
 }
 
 -- .. after a delta that came in became the changes of these numbers: one or none
@@ -45,13 +45,13 @@ takes course delta numbers = record {
   position = course.position;
   numbers = course.numbers ++ numbers;
   merged = course.merged ++ merge_text delta;
-  told = course.told;
+  written = course.written;
 }
 
 -- .. with another position
 abbrev pub moved_to : Course → ℕ → Course
 moved_to course position =
-    record { position = position; numbers = course.numbers; merged = course.merged; told = course.told }
+    record { position = position; numbers = course.numbers; merged = course.merged; written = course.written }
 
 -- no change after the first number and up to the last one came in
 abbrev pub AreOutside : List ℕ → ℕ → ℕ → Type 0
@@ -79,8 +79,8 @@ numbers_of broughts.Refused = []
 
 -- A course before, a line that the server replied, what was asked, and the course after: a pull that returns a group,
 -- in which nothing came in, and which is written,
-abbrev pub Hands : Answering Course
-Hands old line request new = (most : ℕ) × (delta : List ℕ) × (last : ℕ) × (request ≡ pull_most old.position most)
+abbrev pub Writes : Answering Course
+Writes old line request new = (most : ℕ) × (delta : List ℕ) × (last : ℕ) × (request ≡ pull_most old.position most)
     × IsGroup old.position (without_return line) last delta × AreOutside old.numbers old.position last
     × (new ≡ tells old delta last)
 
@@ -102,7 +102,7 @@ Awaits old line request new = (more : List ℕ) × EndsWait more × (request ≡
 -- RELAYS: one of these four, perhaps after the position passed a change that came in
 abbrev pub Relays : Answering Course
 Relays old line request new = (from : Course) × Passes old from
-    × (Hands from line request new ⊎ IsThrough from line request new ⊎ Brings from line request new
+    × (Writes from line request new ⊎ IsThrough from line request new ⊎ Brings from line request new
     ⊎ Awaits from line request new)
 
 -- what a relay works with: its server, the merge lines that come in and have had no reply yet, if they are shown, and
@@ -125,7 +125,7 @@ pub record HasAsked (first last : RelayView) (course : Course) : Type 0 where
   pub run : Run Relays unbegun replies requests course
   pub asked : Appends first.server.asked last.server.asked requests
   pub came : Consumes first.to_come last.to_come course.merged
-  pub sent : Appends first.contents last.contents course.told
+  pub sent : Appends first.contents last.contents course.written
 
 -- RELAYED: .. and then the position may pass a change that came in
 pub record HasRelayed (first last : RelayView) (course : Course) : Type 0 where
@@ -176,15 +176,15 @@ HasFailed (faults.Server fault) server_failed output_failed = fault ≡ Refused 
 
 -- the outcome of a pull of at most `most` changes after a position: a group was written, up to this number, or there is
 -- none
-abbrev pub IsHanded : ℕ → ℕ → PeerView → PeerView → Option (List ℕ) → Option (List ℕ) → Option ℕ → Type 0
-IsHanded position most old new before contents (Some last) = IsReplied (pull_most position most) old new
+abbrev pub IsWritten : ℕ → ℕ → PeerView → PeerView → Option (List ℕ) → Option (List ℕ) → Option ℕ → Type 0
+IsWritten position most old new before contents (Some last) = IsReplied (pull_most position most) old new
     × ((delta : List ℕ) × IsGroup position (without_return new.line) last delta × (last ≤ position + most)
     × Appends before contents (merge_text delta))
-IsHanded position most old new before contents None = IsReplied (pull_most position most) old new
+IsWritten position most old new before contents None = IsReplied (pull_most position most) old new
     × TellsEnd (without_return new.line) position × (contents ≡ before)
 
 -- .. or it broke off
-pub record IsUnhanded (fault : RelayFault) (position most : ℕ) (old new : PeerView)
+pub record IsUnwritten (fault : RelayFault) (position most : ℕ) (old new : PeerView)
     (before contents : Option (List ℕ)) : Type 0 where
   pub put : PutsSome old.asked new.asked (pull_most position most)
   pub taken : TakesLine old.to_come new.to_come

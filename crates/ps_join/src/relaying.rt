@@ -3,8 +3,8 @@ ghost use Rattle.std.specs.Prelude.{◌≡◌, ◌⊎◌, ◌<◌, ◌≤◌, []
 ghost use Rattle.std.specs.Io.KnownBytes.{Appends};
 ghost use Rattle.ps_join.specs.Joins.{IsUnwaited, IsWaited, merge_text};
 ghost use Rattle.ps_grid.specs.declared.refusal.Refusal.TheVariants as Refusal;
-ghost use Rattle.ps_join.specs.Relays.{HasFailed, IsAt, IsHalted, IsHanded, IsOnward, IsRelayed};
-ghost use Rattle.ps_join.specs.Relays.{IsUnhanded, Onward, RelayView, seen};
+ghost use Rattle.ps_join.specs.Relays.{HasFailed, IsAt, IsHalted, IsOnward, IsRelayed, IsUnwritten};
+ghost use Rattle.ps_join.specs.Relays.{IsWritten, Onward, RelayView, seen};
 ghost use Rattle.ps_peers.specs.Peers.{PutsSome};
 ghost use Rattle.ps_peers.specs.declared.peer_pull.SyncFault.TheVariants.{Refused};
 
@@ -37,16 +37,16 @@ fn write_merge<O: Sink>(delta: &[u8], out: &mut O) -> Result<(), Failed>
 
 /// Pulls at most `most` changes after a position, and writes them as a merge line. Returns the position after them, or
 /// `None` if there are none.
-fn hand_group<S: Source + Drop, K: Sink + Drop, O: Sink>(
+fn write_group<S: Source + Drop, K: Sink + Drop, O: Sink>(
     alloc: Global,
     server: &mut Peer<S, K>,
     out: &mut O,
     position: u64,
     most: u64,
 ) -> Result<Option<u64>, RelayFault>
-    ensures handed { IfOk result (IsHanded position most server.old server.new (O.contents out.old)
+    ensures written { IfOk result (IsWritten position most server.old server.new (O.contents out.old)
         (O.contents out.new)) }
-    ensures unhanded { IfErr result (λ fault. IsUnhanded fault position most server.old server.new
+    ensures unwritten { IfErr result (λ fault. IsUnwritten fault position most server.old server.new
         (O.contents out.old) (O.contents out.new)) }
     ensures flushed { O.waiting out.old ≡ []
         → (O.waiting out.new ≡ []) ⊎ (O.failures out.old < O.failures out.new) }
@@ -70,7 +70,7 @@ fn hand_group<S: Source + Drop, K: Sink + Drop, O: Sink>(
 }
 
 /// Pulls the changes after number `start` and up to number `limit`, and writes them.
-fn hand_between<S: Source + Drop, K: Sink + Drop, O: Sink>(
+fn write_between<S: Source + Drop, K: Sink + Drop, O: Sink>(
     alloc: Global,
     server: &mut Peer<S, K>,
     out: &mut O,
@@ -78,7 +78,7 @@ fn hand_between<S: Source + Drop, K: Sink + Drop, O: Sink>(
     limit: u64,
 ) -> Result<(), RelayFault>
     requires within { start ≤ limit }
-    ensures handed { OnOk result (Onward start limit server.old (O.contents out.old) (λ first to_come course.
+    ensures written { OnOk result (Onward start limit server.old (O.contents out.old) (λ first to_come course.
         IsOnward limit course.numbers first (seen server.new to_come (O.contents out.new)))) }
     ensures halted { IfErr result (λ fault. Onward start limit server.old (O.contents out.old)
         (λ first to_come course. (held : List ℕ)
@@ -94,7 +94,7 @@ fn hand_between<S: Source + Drop, K: Sink + Drop, O: Sink>(
     let mut position = start;
     'pulls: while position < limit {
         let most = (limit - position).min(LARGEST_GROUP);
-        match hand_group(alloc, server, out, position, most) {
+        match write_group(alloc, server, out, position, most) {
             Ok(Some(last)) => position = last,
             Ok(None) => return Err(RelayFault::Server(SyncFault::Refused(Refusal::Line))),
             Err(fault) => return Err(fault),
@@ -129,13 +129,13 @@ fn take_in<S: Source + Drop, K: Sink + Drop, I: Intake, O: Sink>(
 {
     match bring(alloc, server, intake, position) {
         Ok(Brought::Anew(number)) => {
-            match hand_between(alloc, server, out, position, number - 1) {
+            match write_between(alloc, server, out, position, number - 1) {
                 Ok(()) => Ok(number),
                 Err(fault) => Err(fault),
             }
         }
         Ok(Brought::Known(number)) if position < number => {
-            match hand_between(alloc, server, out, position, number) {
+            match write_between(alloc, server, out, position, number) {
                 Ok(()) => Ok(number),
                 Err(fault) => Err(fault),
             }
@@ -213,7 +213,7 @@ pub fn relay<S: Source + Drop, K: Sink + Drop, I: Intake, O: Sink>(
             }
             continue;
         }
-        match hand_group(alloc, server, out, position, LARGEST_GROUP) {
+        match write_group(alloc, server, out, position, LARGEST_GROUP) {
             Ok(Some(last)) => position = last,
             Ok(None) => match came {
                 Came::Ended => return Ok(()),

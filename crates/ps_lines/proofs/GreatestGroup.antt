@@ -16,8 +16,8 @@ use Rattle.ps_delta.proofs.WalkLemmas.{rising_of}
 use Rattle.ps_wire.specs.Length.{HasNoLine}
 use Rattle.ps_wire.specs.Line.{delta_text}
 use Rattle.ps_wire.specs.declared.TheConstants.{DELTA_LINE_LIMIT}
-use Rattle.ps_lines.specs.PullReplies.{HandsGroup, HandsOut, HasNone, IsGreatest, IsGroupLine, IsJoint}
-use Rattle.ps_lines.specs.Replies.{handed_text}
+use Rattle.ps_lines.specs.PullReplies.{HasNone, IsGreatest, IsGroupLine, IsJoint, IsPullReply, ReturnsGroup}
+use Rattle.ps_lines.specs.Replies.{group_text}
 
 abbrev IsFilled : ℕ × CellState → Type 0
 IsFilled e = e.1 ≢ empty_cell
@@ -179,25 +179,25 @@ group_line_once deltas n m line other is a b =
     let same : a.delta ≡ b.delta = joint_once (take n deltas) a.delta b.delta a.joint joint in
     a.is ∙ ap delta_text same ∙ sym b.is
 
-group_once : (from most : ℕ) (deltas : List Entries) (text told : List ℕ) → HandsGroup from most deltas text
-    → HandsGroup from most deltas told → text ≡ told
-group_once from most deltas text told (inr a) (inr b) = a.1 ∙ sym b.1
-group_once from most deltas text told (inl a) (inr b) =
+group_once : (from most : ℕ) (deltas : List Entries) (text second : List ℕ) → ReturnsGroup from most deltas text
+    → ReturnsGroup from most deltas second → text ≡ second
+group_once from most deltas text second (inr a) (inr b) = a.1 ∙ sym b.1
+group_once from most deltas text second (inl a) (inr b) =
     absurd (b.0 a.0 a.1 a.2.some a.2.within a.2.grouped)
-group_once from most deltas text told (inr a) (inl b) =
+group_once from most deltas text second (inr a) (inl b) =
     absurd (a.0 b.0 b.1 b.2.some b.2.within b.2.grouped)
-group_once from most deltas text told (inl a) (inl b) = elim (cases_order a.0 b.0) [
-  | inl is ↦ a.3 ∙ ap₂ (λ n line. handed_text (from + n) line) is
+group_once from most deltas text second (inl a) (inl b) = elim (cases_order a.0 b.0) [
+  | inl is ↦ a.3 ∙ ap₂ (λ n line. group_text (from + n) line) is
       (group_line_once deltas a.0 b.0 a.1 b.1 is a.2.grouped b.2.grouped) ∙ sym b.3
   | inr (inl lt) ↦ absurd (a.2.greatest b.0 b.1 lt b.2.within b.2.grouped)
   | inr (inr lt) ↦ absurd (b.2.greatest a.0 a.1 lt a.2.within a.2.grouped)
 ]
 
 -- the history determines the reply to a pull
-pub hands_once : (history : List Entries) (from most : ℕ) (text told : List ℕ) → HandsOut history from most text
-    → HandsOut history from most told → text ≡ told
-hands_once history from most text told a b = elim (cases_order from (length history)) [
+pub pull_reply_once : (history : List Entries) (from most : ℕ) (text second : List ℕ)
+    → IsPullReply history from most text → IsPullReply history from most second → text ≡ second
+pull_reply_once history from most text second a b = elim (cases_order from (length history)) [
   | inl is ↦ a.at_end is ∙ sym (b.at_end is)
-  | inr (inl lt) ↦ group_once from most (drop from history) text told (a.before_end lt) (b.before_end lt)
+  | inr (inl lt) ↦ group_once from most (drop from history) text second (a.before_end lt) (b.before_end lt)
   | inr (inr lt) ↦ a.beyond lt ∙ sym (b.beyond lt)
 ]

@@ -12,5 +12,5 @@ pub mod KeptLineLemmas
 pub mod ReadingLaws
 pub mod GreatestGroup
 mod JointLemmas
-mod PullsHandOut
+mod PullsReturnDeltas
 pub mod PulledDeltas

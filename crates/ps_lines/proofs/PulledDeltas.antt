@@ -7,7 +7,8 @@ use Rattle.std.proofs.lemmas.Bool.{cases_lt}
 use Rattle.ps_grid.specs.declared.refusal.Refusal.{Refusal}
 use Rattle.ps_grid.specs.declared.refusal.Refusal.TheVariants as refusals
 use Rattle.ps_delta.specs.Deltas.{Entries}
-use Rattle.ps_lines.specs.PullReplies.{HandsGroup, HandsOn, HandsOut, HasNone, IsGreatest, IsGroupLine, IsJoint}
+use Rattle.ps_lines.specs.PullReplies.{HasNone, IsGreatest, IsGroupLine, IsJoint, IsPullReply, RepliesWith}
+use Rattle.ps_lines.specs.PullReplies.{ReturnsGroup}
 use Rattle.ps_lines.specs.Replies.{refusal_text}
 
 -- at most n of what comes after the first k
@@ -60,18 +61,18 @@ module _ (deltas : List Entries) (room most : ℕ) (wide : most ≤ room) where
   none_of_all none k line some within group =
       none k line some within (group_of_first deltas room k line (omega (arith, wide, within)) group)
 
-  handed_of_all : (from : ℕ) (text : List ℕ) → HandsGroup from most (take room deltas) text
-      → HandsGroup from most deltas text
-  handed_of_all from text (inl found) = inl (found.0, found.1, greatest_of_all found.0 found.1 found.2, found.3)
-  handed_of_all from text (inr none) = inr (none_of_all none.0, none.1)
+  returned_of_all : (from : ℕ) (text : List ℕ) → ReturnsGroup from most (take room deltas) text
+      → ReturnsGroup from most deltas text
+  returned_of_all from text (inl found) = inl (found.0, found.1, greatest_of_all found.0 found.1 found.2, found.3)
+  returned_of_all from text (inr none) = inr (none_of_all none.0, none.1)
 
 -- a reply made of the first `room` deltas after a number is the history's reply to that pull; or memory has run out,
 -- before the history's end
-pub hands_out : (history : List Entries) (from most room : ℕ) (deltas : List Entries) (text : List ℕ)
+pub pull_reply : (history : List Entries) (from most room : ℕ) (deltas : List Entries) (text : List ℕ)
     → deltas ≡ take room (drop from history) → from ≤ length history → most ≤ room → 1 ≤ room
-    → HandsOn from most (Ok deltas) text
-    → HandsOut history from most text ⊎ ((from < length history) × (text ≡ refusal_text refusals.Memory))
-hands_out history from most room [] text is there wide some told = inl (record {
+    → RepliesWith from most (Ok deltas) text
+    → IsPullReply history from most text ⊎ ((from < length history) × (text ≡ refusal_text refusals.Memory))
+pull_reply history from most room [] text is there wide some told = inl (record {
   beyond = λ lt. absurd (omega (arith, lt, there));
   at_end = λ _. told;
   before_end = λ lt. absurd (omega (
@@ -83,7 +84,7 @@ hands_out history from most room [] text is there wide some told = inl (record {
     length-drop from history,
   ));
 })
-hands_out history from most room (d ∷ ds) text is there wide some (inl group) =
+pull_reply history from most room (d ∷ ds) text is there wide some (inl group) =
     let inside : from < length history = omega (
       arith,
       there,
@@ -94,18 +95,18 @@ hands_out history from most room (d ∷ ds) text is there wide some (inl group) 
     inl (record {
       beyond = λ lt. absurd (omega (arith, lt, there));
       at_end = λ at. absurd (omega (arith, at, inside));
-      before_end = λ _. handed_of_all (drop from history) room most wide from text
-          (subst (λ es. HandsGroup from most es text) is group);
+      before_end = λ _. returned_of_all (drop from history) room most wide from text
+          (subst (λ es. ReturnsGroup from most es text) is group);
     })
-hands_out history from most room (d ∷ ds) text is there wide some (inr memory) = inr (
+pull_reply history from most room (d ∷ ds) text is there wide some (inr memory) = inr (
   omega (arith, there, ap length is, length-take room (drop from history), length-drop from history),
   memory,
 )
 
 -- the refusal of a pull: the deltas have no line, or memory has run out
-pub hands_refusal : (from most : ℕ) (deltas : List Entries) (refusal : Refusal) → 0 < length deltas
+pub replies_refusal : (from most : ℕ) (deltas : List Entries) (refusal : Refusal) → 0 < length deltas
     → (refusal ≡ refusals.TooLong) ⊎ (refusal ≡ refusals.Memory)
-    → (refusal ≡ refusals.TooLong → HasNone deltas most) → HandsOn from most (Ok deltas) (refusal_text refusal)
-hands_refusal from most [] refusal some is none = absurd (omega (arith, some))
-hands_refusal from most (d ∷ ds) refusal some (inl long) none = inl (inr (none long, ap refusal_text long))
-hands_refusal from most (d ∷ ds) refusal some (inr memory) none = inr (ap refusal_text memory)
+    → (refusal ≡ refusals.TooLong → HasNone deltas most) → RepliesWith from most (Ok deltas) (refusal_text refusal)
+replies_refusal from most [] refusal some is none = absurd (omega (arith, some))
+replies_refusal from most (d ∷ ds) refusal some (inl long) none = inl (inr (none long, ap refusal_text long))
+replies_refusal from most (d ∷ ds) refusal some (inr memory) none = inr (ap refusal_text memory)

@@ -8,7 +8,7 @@ use Rattle.ps_wire.specs.declared.TheConstants.{DELTA_LINE_LIMIT}
 use Rattle.ps_wire.specs.Fits.{FitsLine}
 use Rattle.ps_wire.specs.Value.{IsLawful}
 use Rattle.ps_lines.specs.Commands.{Read}
-use Rattle.ps_lines.specs.Replies.{end_text, handed_text, refusal_text}
+use Rattle.ps_lines.specs.Replies.{end_text, group_text, refusal_text}
 
 -- the delta is the join of the deltas
 pub record IsJoint (deltas : List Entries) (delta : Entries) : Type 0 where
@@ -35,24 +35,24 @@ abbrev pub HasNone : List Entries → ℕ → Type 0
 HasNone deltas most = (k : ℕ) (line : List ℕ) → 1 ≤ k → k ≤ most → ¬ IsGroupLine deltas k line
 
 -- the reply with the deltas after the version `from`: as many of them, up to `most`, as fit joined on one line
-abbrev pub HandsGroup : ℕ → ℕ → List Entries → List ℕ → Type 0
-HandsGroup from most deltas text =
-    ((n : ℕ) × (line : List ℕ) × IsGreatest deltas most n line × (text ≡ handed_text (from + n) line))
+abbrev pub ReturnsGroup : ℕ → ℕ → List Entries → List ℕ → Type 0
+ReturnsGroup from most deltas text =
+    ((n : ℕ) × (line : List ℕ) × IsGreatest deltas most n line × (text ≡ group_text (from + n) line))
     ⊎ (HasNone deltas most × (text ≡ refusal_text refusals.TooLong))
 
 -- PULL: the reply to a client that has the first `from` deltas, and accepts at most `most` joined into one
-pub record HandsOut (history : List Entries) (from most : ℕ) (text : List ℕ) : Type 0 where
+pub record IsPullReply (history : List Entries) (from most : ℕ) (text : List ℕ) : Type 0 where
   pub beyond : length history < from → text ≡ refusal_text refusals.Version
   pub at_end : from ≡ length history → text ≡ end_text from
-  pub before_end : from < length history → HandsGroup from most (drop from history) text
+  pub before_end : from < length history → ReturnsGroup from most (drop from history) text
 
 -- the reply to a client that has the first `from` deltas, given the deltas after them or a refusal. The reply is that
 -- refusal, or `end` if there are no deltas. Otherwise it has as many deltas as fit on one line, or is out of memory
-abbrev pub HandsOn : ℕ → ℕ → Read (List Entries) → List ℕ → Type 0
-HandsOn from most (Err refusal) reply = reply ≡ refusal_text refusal
-HandsOn from most (Ok []) reply = reply ≡ end_text from
-HandsOn from most (Ok (d ∷ ds)) reply =
-    HandsGroup from most (d ∷ ds) reply ⊎ (reply ≡ refusal_text refusals.Memory)
+abbrev pub RepliesWith : ℕ → ℕ → Read (List Entries) → List ℕ → Type 0
+RepliesWith from most (Err refusal) reply = reply ≡ refusal_text refusal
+RepliesWith from most (Ok []) reply = reply ≡ end_text from
+RepliesWith from most (Ok (d ∷ ds)) reply =
+    ReturnsGroup from most (d ∷ ds) reply ⊎ (reply ≡ refusal_text refusals.Memory)
 
 -- the delta is in range, and fits on a line
 pub record HasLine (delta : Entries) : Type 0 where
@@ -60,8 +60,8 @@ pub record HasLine (delta : Entries) : Type 0 where
   pub fits : FitsLine delta
 
 -- LAW: if each delta of a history fits on a line, no pull is refused as too long: a client that lacks deltas gets some
-abbrev pub PullsHandOut : Type 0
-PullsHandOut =
+abbrev pub PullsReturnDeltas : Type 0
+PullsReturnDeltas =
     (history : List Entries) (from most : ℕ) (text : List ℕ) → All HasLine history → from < length history → 1 ≤ most
-    → HandsOut history from most text
-    → (n : ℕ) × (line : List ℕ) × IsGreatest (drop from history) most n line × (text ≡ handed_text (from + n) line)
+    → IsPullReply history from most text
+    → (n : ℕ) × (line : List ℕ) × IsGreatest (drop from history) most n line × (text ≡ group_text (from + n) line)

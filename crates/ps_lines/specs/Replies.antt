@@ -31,8 +31,8 @@ abbrev pub entries_reply : ℕ → List ℕ → List ℕ
 entries_reply count table = codes "entries " ++ decimal count ++ 10 ∷ table
 
 -- the version after a delta, and its line
-abbrev pub handed_text : ℕ → List ℕ → List ℕ
-handed_text last line = codes "delta " ++ decimal last ++ (codes " " ++ line) ++ 10 ∷ []
+abbrev pub group_text : ℕ → List ℕ → List ℕ
+group_text last line = codes "delta " ++ decimal last ++ (codes " " ++ line) ++ 10 ∷ []
 
 abbrev pub end_text : ℕ → List ℕ
 end_text version = codes "end " ++ decimal version ++ 10 ∷ []
@@ -56,7 +56,7 @@ reply_text (Shown value) = value_text value
 reply_text (Rows count table) = rows_text count table.items
 reply_text (Entry entry) = entry_reply entry.items
 reply_text (Entries count table) = entries_reply count table.items
-reply_text (Delta last line) = handed_text last line.items
+reply_text (Delta last line) = group_text last line.items
 reply_text (End version) = end_text version
 reply_text (Replica number) = replica_text number
 reply_text (Version number) = version_text number

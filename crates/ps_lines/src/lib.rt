@@ -45,7 +45,7 @@ pub use group::greatest_group;
 pub use history::deltas_after;
 pub use incoming::{Incoming, LineFault, NextLine};
 pub use kept_line::{KeptLine, read_kept_line};
-pub use laws::{bytes_divide_one_way, pulls_hand_out};
+pub use laws::{bytes_divide_one_way, pulls_return_deltas};
 pub use line_buffer::{Fed, LINE_LIMIT, Line, LineBuffer, trimmed};
 pub use push_line::{push_pieces, put_push_line};
 pub use replica_line::{line_of_replica, put_replica_line};

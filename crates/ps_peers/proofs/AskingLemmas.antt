@@ -9,7 +9,7 @@ use Rattle.std.proofs.lemmas.List.Elements.{All-append, All-push}
 use Rattle.std.proofs.lemmas.Grind.{flat_map-append}
 use Rattle.ps_device.proofs.DeviceLemmas.{Appends-append, Appends-nil}
 use Rattle.ps_lines.specs.declared.incoming.NextLine.{NextLine}
-use Rattle.ps_peers.specs.Asking.{Asked, AsksLine, HandsLines, HandsSome, IsAsking, IsBrokenOff, IsConversed}
+use Rattle.ps_peers.specs.Asking.{Asked, AsksLine, WritesLines, WritesSome, IsAsking, IsBrokenOff, IsConversed}
 use Rattle.ps_peers.specs.Asking.{IsInterrupted, ended, lines_due, written_text}
 use Rattle.ps_lines.specs.Feeding.{HasNoFeed, without_return}
 use Rattle.ps_lines.specs.Incomings.{IsNextLine}
@@ -50,9 +50,9 @@ pub puts_none : (old : Option (List ℕ)) (bytes : List ℕ) → PutsSome old ol
 puts_none old bytes = (0, omega arith, Appends-nil old)
 
 -- the outcome of a call that flushes
-pub handed_or_failed : (E P Q : Type 0) (result : Result (Unit {0}) E) → OnOk result P → OnErr result Q → P ⊎ Q
-handed_or_failed E P Q (Ok done) p q = inl p
-handed_or_failed E P Q (Err error) p q = inr q
+pub flushed_or_failed : (E P Q : Type 0) (result : Result (Unit {0}) E) → OnOk result P → OnErr result Q → P ⊎ Q
+flushed_or_failed E P Q (Ok done) p q = inl p
+flushed_or_failed E P Q (Err error) p q = inr q
 
 pub stream-append : (first second : List (List ℕ))
     → stream_of first [] ++ stream_of second [] ≡ stream_of (first ++ second) []
@@ -72,15 +72,15 @@ written-push lines line =
     sym (flat_map-append (λ l. ended (without_return l)) lines (line ∷ [])
     ∙ ap (λ t. written_text lines ++ t) (append-nil (ended (without_return line))))
 
-pub hands_none : (old written : Option (List ℕ)) → HandsLines [] old old written written
-hands_none old written = record {
+pub writes_none : (old written : Option (List ℕ)) → WritesLines [] old old written written
+writes_none old written = record {
   each = λ k d lt. absurd (omega (arith, lt));
   read = Consumes-nil old;
   sent = Appends-nil written;
 }
 
 module _ (lines : List (List ℕ)) (old mid written before : Option (List ℕ))
-    (h : HandsLines lines old mid written before) where
+    (h : WritesLines lines old mid written before) where
   -- one line more came
   read_more : (line : List ℕ) (new : Option (List ℕ)) → Consumes mid new (ended line)
       → Consumes old new (stream_of (lines ++ line ∷ []) [])
@@ -89,10 +89,10 @@ module _ (lines : List (List ℕ)) (old mid written before : Option (List ℕ))
       (Consumes-append _ _ _ (stream_of lines []) (ended line) h.read read)
 
   -- .. and was written
-  pub hands_push : (line : List ℕ) (new contents : Option (List ℕ)) → HasNoFeed line → Consumes mid new (ended line)
+  pub writes_push : (line : List ℕ) (new contents : Option (List ℕ)) → HasNoFeed line → Consumes mid new (ended line)
       → Appends before contents (ended (without_return line))
-      → HandsLines (lines ++ line ∷ []) old new written contents
-  hands_push line new contents one read sent = record {
+      → WritesLines (lines ++ line ∷ []) old new written contents
+  writes_push line new contents one read sent = record {
     each = All-push HasNoFeed lines line h.each one;
     read = read_more line new read;
     sent = subst (Appends written contents) (written-push lines line)
@@ -100,46 +100,46 @@ module _ (lines : List (List ℕ)) (old mid written before : Option (List ℕ))
   }
 
   -- .. and a beginning of it was written
-  pub hands_cut : (line : List ℕ) (new contents : Option (List ℕ)) → HasNoFeed line → Consumes mid new (ended line)
-      → PutsSome before contents (ended (without_return line)) → HandsSome old new written contents
-  hands_cut line new contents one read put = record {
+  pub writes_cut : (line : List ℕ) (new contents : Option (List ℕ)) → HasNoFeed line → Consumes mid new (ended line)
+      → PutsSome before contents (ended (without_return line)) → WritesSome old new written contents
+  writes_cut line new contents one read put = record {
     came = lines ++ line ∷ [];
     each = All-push HasNoFeed lines line h.each one;
     later = new;
     read = read_more line new read;
     more = takes_none new new refl;
-    handed = subst (PutsSome written contents) (written-push lines line)
+    wrote = subst (PutsSome written contents) (written-push lines line)
         (puts_after _ _ _ (written_text lines) (ended (without_return line)) h.sent put);
   }
 
   -- no more than a line came then, and nothing of it was written
-  pub hands_stop : (new : Option (List ℕ)) → TakesLine mid new → HandsSome old new written before
-  hands_stop new more = record {
+  pub writes_stop : (new : Option (List ℕ)) → TakesLine mid new → WritesSome old new written before
+  writes_stop new more = record {
     came = lines;
     each = h.each;
     later = mid;
     read = h.read;
     more = more;
-    handed = puts_all _ _ (written_text lines) h.sent;
+    wrote = puts_all _ _ (written_text lines) h.sent;
   }
 
   -- .. and then some more came
-  pub hands_more : (new contents : Option (List ℕ)) → HandsSome mid new before contents
-      → HandsSome old new written contents
-  hands_more new contents s = record {
+  pub writes_more : (new contents : Option (List ℕ)) → WritesSome mid new before contents
+      → WritesSome old new written contents
+  writes_more new contents s = record {
     came = lines ++ s.came;
     each = All-append HasNoFeed lines s.came h.each s.each;
     later = s.later;
     read = subst (Consumes old s.later) (stream-append lines s.came)
         (Consumes-append _ _ _ (stream_of lines []) (stream_of s.came []) h.read s.read);
     more = s.more;
-    handed = subst (PutsSome written contents) (written-append lines s.came)
-        (puts_after _ _ _ (written_text lines) (written_text s.came) h.sent s.handed);
+    wrote = subst (PutsSome written contents) (written-append lines s.came)
+        (puts_after _ _ _ (written_text lines) (written_text s.came) h.sent s.wrote);
   }
 
-  pub hands_append : (others : List (List ℕ)) (new contents : Option (List ℕ))
-      → HandsLines others mid new before contents → HandsLines (lines ++ others) old new written contents
-  hands_append others new contents o = record {
+  pub writes_append : (others : List (List ℕ)) (new contents : Option (List ℕ))
+      → WritesLines others mid new before contents → WritesLines (lines ++ others) old new written contents
+  writes_append others new contents o = record {
     each = All-append HasNoFeed lines others h.each o.each;
     read = subst (Consumes old new) (stream-append lines others)
         (Consumes-append _ _ _ (stream_of lines []) (stream_of others []) h.read o.read);
@@ -148,40 +148,40 @@ module _ (lines : List (List ℕ)) (old mid written before : Option (List ℕ))
   }
 
   -- .. and then all was flushed
-  pub hands_kept : (contents : Option (List ℕ)) → Keeps before contents → HandsLines lines old mid written contents
-  hands_kept contents keeps = record {
+  pub writes_kept : (contents : Option (List ℕ)) → Keeps before contents → WritesLines lines old mid written contents
+  writes_kept contents keeps = record {
     each = h.each;
     read = h.read;
     sent = Appends-kept _ _ _ (written_text lines) h.sent keeps;
   }
 
-pub some_kept : (old new written before contents : Option (List ℕ)) → HandsSome old new written before
-    → Keeps before contents → HandsSome old new written contents
+pub some_kept : (old new written before contents : Option (List ℕ)) → WritesSome old new written before
+    → Keeps before contents → WritesSome old new written contents
 some_kept old new written before contents s keeps = record {
   came = s.came;
   each = s.each;
   later = s.later;
   read = s.read;
   more = s.more;
-  handed = puts_kept _ _ _ (written_text s.came) s.handed keeps;
+  wrote = puts_kept _ _ _ (written_text s.came) s.wrote keeps;
 }
 
 -- the first line of a reply came, and was written
 module _ (line : List ℕ) (old mid : PeerView) (written before : Option (List ℕ))
     (r : IsReplied (ended line) old mid) (sent : Appends written before (ended (without_return mid.line))) where
-  pub first_hands : HandsLines (mid.line ∷ []) old.to_come mid.to_come written before
-  first_hands =
-      hands_push [] old.to_come old.to_come written written (hands_none old.to_come written) mid.line mid.to_come before
-      r.one r.read sent
+  pub first_writes : WritesLines (mid.line ∷ []) old.to_come mid.to_come written before
+  first_writes =
+      writes_push [] old.to_come old.to_come written written (writes_none old.to_come written) mid.line mid.to_come
+      before r.one r.read sent
 
   -- .. and then the others
   pub reply_asked : (rest : List (List ℕ)) (new : PeerView) (contents after : Option (List ℕ))
-      → HandsLines rest mid.to_come new.to_come before contents → new.asked ≡ mid.asked → Keeps contents after
+      → WritesLines rest mid.to_come new.to_come before contents → new.asked ≡ mid.asked → Keeps contents after
       → lines_due line (without_return mid.line) ≡ Some (length rest)
       → (text : List ℕ) × Asked old line text new × Appends written after text
-  reply_asked rest new contents after hands unasked keeps due =
-      let all = hands_append (mid.line ∷ []) old.to_come mid.to_come written before first_hands rest new.to_come
-      contents hands in (
+  reply_asked rest new contents after writes unasked keeps due =
+      let all = writes_append (mid.line ∷ []) old.to_come mid.to_come written before first_writes rest new.to_come
+      contents writes in (
         written_text (mid.line ∷ rest),
         record {
           first = mid.line;
@@ -196,21 +196,21 @@ module _ (line : List ℕ) (old mid : PeerView) (written before : Option (List �
       )
 
   -- .. or only some of the others
-  pub reply_some : (new contents after : Option (List ℕ)) → HandsSome mid.to_come new before contents
-      → Keeps contents after → HandsSome old.to_come new written after
+  pub reply_some : (new contents after : Option (List ℕ)) → WritesSome mid.to_come new before contents
+      → Keeps contents after → WritesSome old.to_come new written after
   reply_some new contents after some keeps =
       some_kept _ _ _ contents after
-      (hands_more (mid.line ∷ []) old.to_come mid.to_come written before first_hands new contents some) keeps
+      (writes_more (mid.line ∷ []) old.to_come mid.to_come written before first_writes new contents some) keeps
 
   -- .. or all others, and the flush failed
   pub reply_unflushed : (rest : List (List ℕ)) (new contents after : Option (List ℕ))
-      → HandsLines rest mid.to_come new before contents → Keeps contents after
-      → HandsSome old.to_come new written after
-  reply_unflushed rest new contents after hands keeps =
-      let all = hands_append (mid.line ∷ []) old.to_come mid.to_come written before first_hands rest new contents
-      hands in
+      → WritesLines rest mid.to_come new before contents → Keeps contents after
+      → WritesSome old.to_come new written after
+  reply_unflushed rest new contents after writes keeps =
+      let all = writes_append (mid.line ∷ []) old.to_come mid.to_come written before first_writes rest new contents
+      writes in
       some_kept _ _ _ contents after
-      (hands_stop (mid.line ∷ rest) old.to_come new written contents all new (takes_none new new refl)) keeps
+      (writes_stop (mid.line ∷ rest) old.to_come new written contents all new (takes_none new new refl)) keeps
 
 -- the last line of an input has no line feed
 abbrev feed_of : Bool → List ℕ
@@ -245,7 +245,7 @@ module _ (first mid : PeerView) (written before given due : Option (List ℕ))
     taken = t.taken;
     broken = inl (
       puts_none mid.asked _,
-      hands_stop [] mid.to_come mid.to_come before before (hands_none mid.to_come before) mid.to_come
+      writes_stop [] mid.to_come mid.to_come before before (writes_none mid.to_come before) mid.to_come
           (takes_none mid.to_come mid.to_come refl),
     );
   }

@@ -7,8 +7,8 @@ use Rattle.ps_device.proofs.DeviceLemmas.{Appends-append, Appends-nil}
 use Rattle.ps_lines.specs.Feeding.{HasNoFeed, without_return}
 use Rattle.ps_peers.specs.Peers.{IsReplied, PeerView, PutsSome}
 use Rattle.ps_lines.specs.Streams.{TakesLine, stream_of}
-use Rattle.ps_peers.specs.Exchange.{Asks, HandsOn, HandsOver, IsFollowed, IsHalted, TellsEnd, TellsNews, pull_text}
-use Rattle.ps_peers.specs.Exchange.{wait_text}
+use Rattle.ps_peers.specs.Exchange.{Asks, IsFollowed, IsHalted, TellsEnd, TellsNews, WritesPulled, WritesReply}
+use Rattle.ps_peers.specs.Exchange.{pull_text, wait_text}
 use Rattle.ps_lines.proofs.StreamLemmas.{Run-push, stream-push, stream-rest}
 use Rattle.ps_lines.proofs.ReadLemmas.{Consumes-append, Consumes-nil}
 
@@ -31,9 +31,9 @@ module _ (waits : Type 0) (start : ℕ) (first mid last : PeerView) (written bef
     (version : ℕ) (f : IsFollowed waits start first mid written before version) where
   -- one more reply, whose text was written
   pub followed_more : (text : List ℕ) (next : ℕ) → IsReplied (pull_text version) mid last
-      → HandsOver version last.line text next → Appends before contents text
+      → WritesPulled version last.line text next → Appends before contents text
       → IsFollowed waits start first last written contents next
-  followed_more text next r hands sent = record {
+  followed_more text next r writes sent = record {
     replies = f.replies ++ last.line ∷ [];
     each = All-push HasNoFeed f.replies last.line f.each r.one;
     read = subst (Consumes first.to_come last.to_come)
@@ -41,10 +41,10 @@ module _ (waits : Type 0) (start : ℕ) (first mid last : PeerView) (written bef
         (Consumes-append _ _ _ (stream_of f.replies []) (last.line ++ 10 ∷ []) f.read r.read);
     requests = f.requests ++ pull_text version;
     asks = Run-push (Asks waits) f.replies start version next f.requests (pull_text version) last.line f.asks
-        (inl (refl, (text, hands)));
+        (inl (refl, (text, writes)));
     asked = Appends-append _ _ _ f.requests (pull_text version) f.asked r.asked;
     text = f.text ++ text;
-    hands = Run-push (HandsOn waits) f.replies start version next f.text text last.line f.hands (inl hands);
+    writes = Run-push (WritesReply waits) f.replies start version next f.text text last.line f.writes (inl writes);
     sent = Appends-append _ _ _ f.text text f.sent sent;
   }
 
@@ -69,7 +69,7 @@ module _ (waits : Type 0) (start : ℕ) (first mid last : PeerView) (written bef
         (inr (may, refl, ([], (news, refl, refl))));
     asked = Appends-append _ _ _ f.requests (wait_text version) f.asked r.asked;
     text = f.text ++ [];
-    hands = Run-push (HandsOn waits) f.replies start version version f.text [] last.line f.hands
+    writes = Run-push (WritesReply waits) f.replies start version version f.text [] last.line f.writes
         (inr (may, (news, refl, refl)));
     sent = Appends-append _ _ _ f.text [] f.sent (Appends-nil before);
   }
@@ -83,27 +83,27 @@ module _ (waits : Type 0) (start : ℕ) (first mid last : PeerView) (written bef
     version = version;
     followed = f;
     taken = taken;
-    handed = inl same;
+    wrote = inl same;
   }
 
   -- .. or was written in part
   pub halted_cut : (failed : Type 0) (text : List ℕ) (next : ℕ) → failed → IsReplied (pull_text version) mid last
-      → HandsOver version last.line text next
+      → WritesPulled version last.line text next
       → PutsSome before contents text → IsHalted waits failed start first last written contents
-  halted_cut failed text next fails r hands cut = record {
+  halted_cut failed text next fails r writes cut = record {
     middle = mid;
     before = before;
     version = version;
     followed = f;
     taken = replied_takes (pull_text version) mid last r;
-    handed = inr (
+    wrote = inr (
       fails,
       record {
         one = r.one;
         read = r.read;
         text = text;
         next = next;
-        hands = hands;
+        writes = writes;
         sent = cut;
       },
     );

@@ -101,25 +101,25 @@ pub record IsConversed (first last : PeerView) (written contents given left : Op
   pub sent : Appends written contents text
 
 -- these lines came, and each was written
-pub record HandsLines (lines : List (List ℕ)) (old new written contents : Option (List ℕ)) : Type 0 where
+pub record WritesLines (lines : List (List ℕ)) (old new written contents : Option (List ℕ)) : Type 0 where
   pub each : All HasNoFeed lines
   pub read : Consumes old new (stream_of lines [])
   pub sent : Appends written contents (written_text lines)
 
 -- some lines came, and then at most one line more; a beginning of the text of the first ones was written
-pub record HandsSome (old new written contents : Option (List ℕ)) : Type 0 where
+pub record WritesSome (old new written contents : Option (List ℕ)) : Type 0 where
   pub came : List (List ℕ)
   pub each : All HasNoFeed came
   pub later : Option (List ℕ)
   pub read : Consumes old later (stream_of came [])
   pub more : TakesLine later new
-  pub handed : PutsSome written contents (written_text came)
+  pub wrote : PutsSome written contents (written_text came)
 
 -- BROKEN OFF: a beginning of the line was sent, and a beginning of the lines that came then was written. Or the line is
 -- too long, and a beginning of its refusal was written
 abbrev pub IsBrokenOff : List ℕ → PeerView → PeerView → Option (List ℕ) → Option (List ℕ) → Type 0
 IsBrokenOff raw old new written contents =
-    (PutsSome old.asked new.asked (ended (without_return raw)) × HandsSome old.to_come new.to_come written contents)
+    (PutsSome old.asked new.asked (ended (without_return raw)) × WritesSome old.to_come new.to_come written contents)
     ⊎ ((kept raw ≡ None) × (new ≡ old) × PutsSome written contents (refusal_text refusals.Line))
 
 -- .. in a conversation: all lines before it were answered, and no more of the input was read than this line

@@ -91,26 +91,26 @@ IsAwaited version old new true =
 IsAwaited version old new false = IsClosed (wait_text version) old new
 
 -- the text written for a line that replies to a pull after `version`, and the version of the next pull
-abbrev pub HandsOver : Answering ℕ
-HandsOver version line text next =
+abbrev pub WritesPulled : Answering ℕ
+WritesPulled version line text next =
     ((delta : List ℕ) × IsGroup version (without_return line) next delta × (text ≡ push_text delta))
     ⊎ (TellsEnd (without_return line) version × (text ≡ []) × (next ≡ version))
 
 -- for a line that replies to a wait no text is written, and the version stays
-abbrev pub HandsNothing : Answering ℕ
-HandsNothing version line text next =
+abbrev pub WritesNothing : Answering ℕ
+WritesNothing version line text next =
     TellsNews version (without_return line) × (text ≡ []) × (next ≡ version)
 
 -- the text written for a line that replies to a pull, or, if there are `waits`, to a wait
-abbrev pub HandsOn : Type 0 → Answering ℕ
-HandsOn waits version line text next =
-    HandsOver version line text next ⊎ (waits × HandsNothing version line text next)
+abbrev pub WritesReply : Type 0 → Answering ℕ
+WritesReply waits version line text next =
+    WritesPulled version line text next ⊎ (waits × WritesNothing version line text next)
 
 -- .. and the request that the line replies to
 abbrev pub Asks : Type 0 → Answering ℕ
 Asks waits version line text next =
-    ((text ≡ pull_text version) × ((handed : List ℕ) × HandsOver version line handed next))
-    ⊎ (waits × (text ≡ wait_text version) × ((handed : List ℕ) × HandsNothing version line handed next))
+    ((text ≡ pull_text version) × ((written : List ℕ) × WritesPulled version line written next))
+    ⊎ (waits × (text ≡ wait_text version) × ((written : List ℕ) × WritesNothing version line written next))
 
 -- FOLLOWED: the peer replied to one pull after the other, the first after the version `start`, each further one after
 -- the version of the reply before. If there are `waits`, there may be waits between them. What was written is exactly
@@ -124,7 +124,7 @@ pub record IsFollowed (waits : Type 0) (start : ℕ) (first last : PeerView) (wr
   pub asks : Run (Asks waits) start replies requests version
   pub asked : Appends first.asked last.asked requests
   pub text : List ℕ
-  pub hands : Run (HandsOn waits) start replies text version
+  pub writes : Run (WritesReply waits) start replies text version
   pub sent : Appends written contents text
 
 -- .. until the peer had no more: its last reply is the end
@@ -148,7 +148,7 @@ pub record IsCut (middle last : PeerView) (version : ℕ) (before contents : Opt
   pub read : Consumes middle.to_come last.to_come (last.line ++ 10 ∷ [])
   pub text : List ℕ
   pub next : ℕ
-  pub hands : HandsOver version last.line text next
+  pub writes : WritesPulled version last.line text next
   pub sent : PutsSome before contents text
 
 -- HALTED: the peer was followed up to some reply. Then at most one line was read, and none of its text was written. If
@@ -160,4 +160,4 @@ pub record IsHalted (waits failed : Type 0) (start : ℕ) (first last : PeerView
   pub version : ℕ
   pub followed : IsFollowed waits start first middle written before version
   pub taken : TakesLine middle.to_come last.to_come
-  pub handed : (before ≡ contents) ⊎ (failed × IsCut middle last version before contents)
+  pub wrote : (before ≡ contents) ⊎ (failed × IsCut middle last version before contents)

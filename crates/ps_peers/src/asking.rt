@@ -4,7 +4,7 @@ ghost use Rattle.std.specs.Prelude.{OnOk, length, option_map, nat_eq};
 ghost use Rattle.std.specs.List.{starts_with};
 ghost use Rattle.std.specs.Io.KnownBytes.{Appends, Consumes, IsAtEnd, Keeps};
 ghost use Rattle.ps_grid.specs.declared.refusal.Refusal.TheVariants as Refusal;
-ghost use Rattle.ps_peers.specs.Asking.{Asked, AsksLine, HandsLines, HandsSome, IsBrokenOff, IsConversed};
+ghost use Rattle.ps_peers.specs.Asking.{Asked, AsksLine, IsBrokenOff, IsConversed, WritesLines, WritesSome};
 ghost use Rattle.ps_peers.specs.Asking.{IsInterrupted, ended, lines_after, lines_due, no_seat, none_more, number_after};
 ghost use Rattle.ps_peers.specs.Exchange.{IsOwn};
 ghost use Rattle.ps_lines.specs.Feeding.{without_return};
@@ -166,8 +166,8 @@ fn put_rest<S: Source + Drop, K: Sink + Drop, O: Sink>(
     out: &mut O,
 ) -> Result<(), SyncFault>
     ensures all { OnOk result ((lines : List (List ℕ)) × (length lines ≡ count)
-        × HandsLines lines peer.old.to_come peer.new.to_come (O.contents out.old) (O.contents out.new)) }
-    ensures some { OnErr result (HandsSome peer.old.to_come peer.new.to_come
+        × WritesLines lines peer.old.to_come peer.new.to_come (O.contents out.old) (O.contents out.new)) }
+    ensures some { OnErr result (WritesSome peer.old.to_come peer.new.to_come
         (O.contents out.old) (O.contents out.new)) }
     ensures unasked { peer.new.asked ≡ peer.old.asked }
     ensures calm { OnOk result ((peer.new.failures ≡ peer.old.failures) × (O.failures out.new ≡ O.failures out.old)) }
@@ -213,7 +213,7 @@ fn ask_line<S: Source + Drop, K: Sink + Drop, O: Sink, W: Watcher>(
     ensures asked { OnOk result ((text : List ℕ) × Asked peer.old line.now text peer.new
         × Appends (O.contents out.old) (O.contents out.new) text) }
     ensures put { PutsSome peer.old.asked peer.new.asked (ended line.now) }
-    ensures some { OnErr result (HandsSome peer.old.to_come peer.new.to_come
+    ensures some { OnErr result (WritesSome peer.old.to_come peer.new.to_come
         (O.contents out.old) (O.contents out.new)) }
     ensures flushed { O.waiting out.old ≡ []
         → (O.waiting out.new ≡ []) ⊎ (O.failures out.old < O.failures out.new) }

@@ -47,10 +47,10 @@ attended {r} {h} {seat} {last} pass left entered given on answered = record {
 }
 
 -- what is covered, for the pass that the session began with and the pass that it returned
-pub handed_at : {State : Type 0} (Line : Answering State) (covers : State → Type 0) (ended : Type 0)
+pub covered_for_pass : {State : Type 0} (Line : Answering State) (covers : State → Type 0) (ended : Type 0)
     (seat last pass left : State) (written contents : Option (List ℕ)) (read waiting : List ℕ) → seat ≡ pass
     → left ≡ last → IsCovered Line covers ended seat written read last contents waiting
     → IsCovered Line covers ended pass written read left contents waiting
-handed_at Line covers ended seat last pass left written contents read waiting entered given is =
+covered_for_pass Line covers ended seat last pass left written contents read waiting entered given is =
     subst (λ s. IsCovered Line covers ended s written read left contents waiting) entered
     (subst (λ s. IsCovered Line covers ended seat written read s contents waiting) (sym given) is)

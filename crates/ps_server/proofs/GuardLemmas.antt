@@ -74,7 +74,8 @@ is_longer bytes line more same is =
     omega (arith, e)
 
 -- the first part of bytes without a line feed, and of what follows them
-pub first_goes_on : (front rest : List ℕ) → HasNoFeed front → first_part 10 (front ++ rest) ≡ front ++ first_part 10 rest
+pub first_goes_on : (front rest : List ℕ) → HasNoFeed front
+    → first_part 10 (front ++ rest) ≡ front ++ first_part 10 rest
 first_goes_on [] rest free = refl
 first_goes_on (c ∷ front) rest free =
     go (c == 10) refl (first_goes_on front rest (All-tail (λ b. b ≢ 10) c front free))

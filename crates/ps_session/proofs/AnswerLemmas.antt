@@ -18,7 +18,7 @@ use Rattle.ps_session.specs.SheetBoard.{SheetCalls, SheetPulls}
 use Rattle.ps_lines.specs.declared.command.Command.{Command}
 use Rattle.ps_session.specs.declared.board.Merged.TheVariants.{Known, New}
 use Rattle.ps_lines.specs.declared.command.Command.TheVariants as commands
-use Rattle.ps_lines.proofs.PulledDeltas.{hands_out}
+use Rattle.ps_lines.proofs.PulledDeltas.{pull_reply}
 
 -- a refusal is out of memory, or it isn't
 pub memory_or_other : (refusal : Refusal) → (refusal ≡ refusals.Memory) ⊎ (refusal ≢ refusals.Memory)
@@ -115,9 +115,9 @@ module _ (old new : SheetView) (line text : List ℕ) where
   obeyed (Ok (commands.Entries first last)) reads (Err refusal, memory, told) =
       lacks (Ok (commands.Entries first last)) reads tt (told ∙ ap refusal_text memory.0) memory.1
   obeyed (Ok (commands.Pull from most)) reads (Ok deltas, pulled, told) =
-      elim (hands_out old.history from (unwrap_or most 1) (max (unwrap_or most 1) 1) deltas text pulled.1 pulled.0
+      elim (pull_reply old.history from (unwrap_or most 1) (max (unwrap_or most 1) 1) deltas text pulled.1 pulled.0
       (omega arith) (omega arith) told) [
-        | inl hands ↦ serves (commands.Pull from most) reads (stays pulled.2, hands) (replica_stays pulled.2)
+        | inl returned ↦ serves (commands.Pull from most) reads (stays pulled.2, returned) (replica_stays pulled.2)
         | inr memory ↦ lacks (Ok (commands.Pull from most)) reads memory.0 memory.1 pulled.2
       ]
   obeyed (Ok (commands.Pull from most)) reads (Err refusal, (inl beyond, same), told) =

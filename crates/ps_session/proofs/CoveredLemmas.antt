@@ -10,7 +10,7 @@ use Rattle.ps_device.proofs.DeviceLemmas.{Appends-keeps, Appends-nil}
 use Rattle.ps_lines.specs.Feeding.{HasNoFeed}
 use Rattle.ps_lines.specs.Streams.{Answering, IsAfterLine, Lines, Run, Splits, stream_of, with_last}
 use Rattle.ps_session.specs.Transcript.{Cut, Transcribed}
-use Rattle.ps_session.specs.Keeping.{AreFirstLines, Halted, HandsOnly, IsCovered, StaysFit}
+use Rattle.ps_session.specs.Keeping.{AreFirstLines, Halted, SendsOnly, IsCovered, StaysFit}
 use Rattle.ps_session.specs.Inside.Stands.{Stands}
 use Rattle.ps_lines.proofs.StreamLemmas.{Run-push, stream-push, stream-rest}
 use Rattle.ps_session.proofs.Runs.{all_lines}
@@ -78,27 +78,27 @@ known_end P Q bytes lines known first = record { after = first.after; whole = go
 -- ---- what was sent
 
 -- all of it or a part
-handed_all : (written contents : Option (List ℕ)) (text waiting : List ℕ) → Appends written contents text
-    → HandsOnly written text contents waiting
-handed_all written contents text waiting sent before all handed is_before is_all whole = (
+delivered_all : (written contents : Option (List ℕ)) (text waiting : List ℕ) → Appends written contents text
+    → SendsOnly written text contents waiting
+delivered_all written contents text waiting sent before all delivered is_before is_all whole = (
   waiting,
   sym whole ∙ subst (λ c. Appends (Some before) c text) is_all (subst (λ w. Appends w contents text) is_before sent),
 )
 
 -- what was put after a flush waits
-handed_before : (written put contents : Option (List ℕ)) (text waiting : List ℕ) → Appends written put text
-    → HoldsBack put contents [] waiting → HandsOnly written text contents waiting
-handed_before written put contents text waiting sent held before all handed is_before is_all whole =
+delivered_before : (written put contents : Option (List ℕ)) (text waiting : List ℕ) → Appends written put text
+    → HoldsBack put contents [] waiting → SendsOnly written text contents waiting
+delivered_before written put contents text waiting sent held before all delivered is_before is_all whole =
     go put (subst (λ w. Appends w put text) is_before sent) held
   where
     go : (p : Option (List ℕ)) → Appends (Some before) p text → HoldsBack p contents [] waiting
-        → (rest : List ℕ) × (handed ++ rest ≡ before ++ text)
+        → (rest : List ℕ) × (delivered ++ rest ≡ before ++ text)
     go None known held = absurd known
     go (Some p) known held =
         let grown : all ≡ p ++ held.0 = subst (λ c. Appends (Some p) c held.0) is_all held.1 in
-        let same : handed ≡ p = append_cancel_right handed p held.0
-        (ap (λ w. handed ++ w) (sym held.2) ∙ sym whole ∙ grown) in
-        ([], append-nil handed ∙ same ∙ known)
+        let same : delivered ≡ p = append_cancel_right delivered p held.0
+        (ap (λ w. delivered ++ w) (sym held.2) ∙ sym whole ∙ grown) in
+        ([], append-nil delivered ∙ same ∙ known)
 
 -- ---- at each end
 
@@ -155,8 +155,8 @@ module _ {State : Type 0} (Line : Answering State) (ended : Type 0) (first : Sta
       run = (refl, refl);
       since = (refl, refl);
       kept = inr refl;
-      handed = handed_all written contents [] waiting (Appends-keeps written written contents [] (Appends-nil written)
-          same);
+      delivered = delivered_all written contents [] waiting
+          (Appends-keeps written written contents [] (Appends-nil written) same);
     }
 
     -- the keeper covers all
@@ -175,7 +175,7 @@ module _ {State : Type 0} (Line : Answering State) (ended : Type 0) (first : Sta
       run = s.run;
       since = (refl, refl);
       kept = inl covered;
-      handed = handed_all written contents s.text waiting s.sent;
+      delivered = delivered_all written contents s.text waiting s.sent;
     }
 
     pub covered_end : (read : List ℕ) (last : State) (contents after : Option (List ℕ)) (answered : ℕ) → ended
@@ -192,7 +192,7 @@ module _ {State : Type 0} (Line : Answering State) (ended : Type 0) (first : Sta
       run = t.run;
       since = (refl, refl);
       kept = inl covered;
-      handed = handed_all written after t.text waiting (Appends-keeps written contents after t.text t.sent same);
+      delivered = delivered_all written after t.text waiting (Appends-keeps written contents after t.text t.sent same);
     }
 
     -- it covers the board as it was at the last sync
@@ -213,7 +213,7 @@ module _ {State : Type 0} (Line : Answering State) (ended : Type 0) (first : Sta
         run = s.run;
         since = t.run;
         kept = inl covered;
-        handed = handed_before written put contents s.text waiting s.sent held;
+        delivered = delivered_before written put contents s.text waiting s.sent held;
       }
 
       pub covered_cut : (bytes : List ℕ) → Cut Line ⊥ middle put (s.rest ++ bytes) last contents
@@ -229,7 +229,7 @@ module _ {State : Type 0} (Line : Answering State) (ended : Type 0) (first : Sta
         run = s.run;
         since = Run-push Line t.lines middle t.middle last t.text t.reply t.line t.run t.answers;
         kept = inl covered;
-        handed = handed_before written put contents s.text waiting s.sent held;
+        delivered = delivered_before written put contents s.text waiting s.sent held;
       }
         where
           go : (after : List ℕ) → IsAfterLine ⊥ after → s.rest ++ bytes ≡ stream_of t.lines (t.line ++ after)
@@ -258,7 +258,7 @@ module _ {State : Type 0} (Line : Answering State) (ended : Type 0) (first : Sta
         run = s.run;
         since = ran.1;
         kept = inl covered;
-        handed = handed_before written put contents s.text waiting s.sent held;
+        delivered = delivered_before written put contents s.text waiting s.sent held;
       }
 
 -- with what is known of the end of the input
@@ -286,7 +286,7 @@ module _ {State : Type 0} (Line : Answering State) (P Q : Type 0) (known : P →
     run = h.run;
     since = h.since;
     kept = h.kept;
-    handed = h.handed;
+    delivered = h.delivered;
   }
 
 -- ---- what was noted

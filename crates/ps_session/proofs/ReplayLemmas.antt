@@ -31,17 +31,17 @@ use Rattle.ps_lines.specs.declared.command.Command.TheVariants as commands
 use Rattle.ps_lines.specs.declared.line_buffer.TheConstants.{LINE_LIMIT}
 use Rattle.ps_session.proofs.AskedInRange.{AsksInRange, line_in_range, made_in_grid}
 use Rattle.ps_session.proofs.NewsLines.{news_line}
-use Rattle.ps_lines.proofs.GreatestGroup.{hands_once, same_entries}
+use Rattle.ps_lines.proofs.GreatestGroup.{pull_reply_once, same_entries}
 use Rattle.ps_lines.proofs.ReadingLaws.{reads_once}
 use Rattle.ps_lines.proofs.SplitLemmas.{divides_one_way}
 
 -- what an edit comes to, given what was made of it
-edited_once : (made : Result Entries Refusal) (history next after : List Entries) (text told : List ℕ)
-    → Edited made history text next → Edited made history told after → (text ≡ told) × (next ≡ after)
-edited_once (Ok d) history next after text told a b =
+edited_once : (made : Result Entries Refusal) (history next after : List Entries) (text second : List ℕ)
+    → Edited made history text next → Edited made history second after → (text ≡ second) × (next ≡ after)
+edited_once (Ok d) history next after text second a b =
     let same : next ≡ after = a.0 ∙ sym b.0 in
     (a.1 ∙ ap (λ (h : List Entries). done_text (length h)) same ∙ sym b.1, same)
-edited_once (Err e) history next after text told a b = (a.1 ∙ sym b.1, a.0 ∙ sym b.0)
+edited_once (Err e) history next after text second a b = (a.1 ∙ sym b.1, a.0 ∙ sym b.0)
 
 taken_once : (d : Entries) (history next after : List Entries) → Takes d history next → Takes d history after
     → next ≡ after
@@ -55,43 +55,43 @@ news_delta_once : (s : State) (d n m : Entries) → IsNewsDelta s d n → IsNews
 news_delta_once s d n m v w =
     same_entries n m v.delta w.delta ((least_news s (state_of d) (state_of n) v.news).once (state_of m) w.news)
 
-merged_once : (d : Entries) (history next after : List Entries) (text told : List ℕ) → IsMerged d history text next
-    → IsMerged d history told after → (text ≡ told) × (next ≡ after)
-merged_once d history next after text told (inl a) (inl b) =
+merged_once : (d : Entries) (history next after : List Entries) (text second : List ℕ) → IsMerged d history text next
+    → IsMerged d history second after → (text ≡ second) × (next ≡ after)
+merged_once d history next after text second (inl a) (inl b) =
     let news = news_delta_once (joined_history history) d a.0 b.0 a.1 b.1 in
     let same : next ≡ after = a.2 ∙ ap (λ (n : Entries). history ++ n ∷ []) news ∙ sym b.2 in
     (a.3 ∙ ap (λ (h : List Entries). done_text (length h)) same ∙ sym b.3, same)
-merged_once d history next after text told (inl a) (inr b) = absurd (a.1.some b.0)
-merged_once d history next after text told (inr a) (inl b) = absurd (b.1.some a.0)
-merged_once d history next after text told (inr a) (inr b) =
+merged_once d history next after text second (inl a) (inr b) = absurd (a.1.some b.0)
+merged_once d history next after text second (inr a) (inl b) = absurd (b.1.some a.0)
+merged_once d history next after text second (inr a) (inr b) =
     let same : next ≡ after = a.1 ∙ sym b.1 in
     (a.2 ∙ ap (λ (h : List Entries). same_text (length h)) same ∙ sym b.2, same)
 
-obeyed_once : (r : ℕ) (history next after : List Entries) (asked : Read Command) (text told : List ℕ)
-    → IsInGrid (joined_history history) → Obeys r history asked text next → Obeys r history asked told after
-    → (text ≡ told) × (next ≡ after)
-obeyed_once r history next after (Ok (commands.Edit edit)) text told inside a b =
-    edited_once (delta_of_edit r (joined_history history) edit) history next after text told a b
-obeyed_once r history next after (Ok (commands.Get c)) text told inside a b =
+obeyed_once : (r : ℕ) (history next after : List Entries) (asked : Read Command) (text second : List ℕ)
+    → IsInGrid (joined_history history) → Obeys r history asked text next → Obeys r history asked second after
+    → (text ≡ second) × (next ≡ after)
+obeyed_once r history next after (Ok (commands.Edit edit)) text second inside a b =
+    edited_once (delta_of_edit r (joined_history history) edit) history next after text second a b
+obeyed_once r history next after (Ok (commands.Get c)) text second inside a b =
     let same : a.1 c ≡ b.1 c = settled_at_most_once (joined_history history) a.1 b.1 inside a.2 b.2 c in
     (a.3 ∙ ap value_text same ∙ sym b.3, a.0 ∙ sym b.0)
-obeyed_once r history next after (Ok (commands.Rows c d)) text told inside a b =
+obeyed_once r history next after (Ok (commands.Rows c d)) text second inside a b =
     let same : a.1 ≡ b.1 = fun_ext (λ e. settled_at_most_once (joined_history history) a.1 b.1 inside a.2 b.2 e) in (
       a.3 ∙ ap (λ (v : Assignment). rows_text ((spanned c d).height) (exported v (spanned c d))) same ∙ sym b.3,
       a.0 ∙ sym b.0,
     )
-obeyed_once r history next after (Ok (commands.Entry c)) text told inside a b = (a.1 ∙ sym b.1, a.0 ∙ sym b.0)
-obeyed_once r history next after (Ok (commands.Entries c d)) text told inside a b = (a.1 ∙ sym b.1, a.0 ∙ sym b.0)
-obeyed_once r history next after (Ok (commands.Pull from most)) text told inside a b =
-    (hands_once history from (unwrap_or most 1) text told a.1 b.1, a.0 ∙ sym b.0)
-obeyed_once r history next after (Ok (commands.Push d)) text told inside a b =
+obeyed_once r history next after (Ok (commands.Entry c)) text second inside a b = (a.1 ∙ sym b.1, a.0 ∙ sym b.0)
+obeyed_once r history next after (Ok (commands.Entries c d)) text second inside a b = (a.1 ∙ sym b.1, a.0 ∙ sym b.0)
+obeyed_once r history next after (Ok (commands.Pull from most)) text second inside a b =
+    (pull_reply_once history from (unwrap_or most 1) text second a.1 b.1, a.0 ∙ sym b.0)
+obeyed_once r history next after (Ok (commands.Push d)) text second inside a b =
     let same : next ≡ after = taken_once d history next after a.0 b.0 in
     (a.1 ∙ ap (λ (h : List Entries). done_text (length h)) same ∙ sym b.1, same)
-obeyed_once r history next after (Ok (commands.Merge d)) text told inside a b =
-    merged_once d history next after text told a b
-obeyed_once r history next after (Ok (commands.Replica named)) text told inside a b = (a.1 ∙ sym b.1, a.0 ∙ sym b.0)
-obeyed_once r history next after (Ok (commands.Wait seen)) text told inside a b = (a.1 ∙ sym b.1, a.0 ∙ sym b.0)
-obeyed_once r history next after (Err e) text told inside a b = (a.1 ∙ sym b.1, a.0 ∙ sym b.0)
+obeyed_once r history next after (Ok (commands.Merge d)) text second inside a b =
+    merged_once d history next after text second a b
+obeyed_once r history next after (Ok (commands.Replica named)) text second inside a b = (a.1 ∙ sym b.1, a.0 ∙ sym b.0)
+obeyed_once r history next after (Ok (commands.Wait seen)) text second inside a b = (a.1 ∙ sym b.1, a.0 ∙ sym b.0)
+obeyed_once r history next after (Err e) text second inside a b = (a.1 ∙ sym b.1, a.0 ∙ sym b.0)
 
 pushed_in_grid : (d : Entries) (history next : List Entries) → IsInGrid (joined_history history)
     → All (λ e. e.0 < CELLS) d → next ≡ history ++ d ∷ [] → IsInGrid (joined_history next)
@@ -148,21 +148,21 @@ obeyed_in_grid r history next (Err e) text asks inside obeys =
     subst (λ (h : List Entries). IsInGrid (joined_history h)) (sym obeys.0) inside
 
 -- two steps from the same sheet with the same reply to the same sheet
-record IsSameStep (last end : SheetView) (text told : List ℕ) : Type 0 where
-  text_same : text ≡ told
+record IsSameStep (last end : SheetView) (text second : List ℕ) : Type 0 where
+  text_same : text ≡ second
   sheet_same : IsSameSheet last end
   inside : IsInGrid (joined_history last.history)
 
-module _ (a b last end : SheetView) (text told : List ℕ) (same : IsSameSheet a b)
+module _ (a b last end : SheetView) (text second : List ℕ) (same : IsSameSheet a b)
     (inside : IsInGrid (joined_history a.history)) where
-  served_once : (line : List ℕ) → Serves a line text last → Serves b line told end → IsSameStep last end text told
+  served_once : (line : List ℕ) → Serves a line text last → Serves b line second end → IsSameStep last end text second
   served_once line s t =
       let asked : s.asked ≡ t.asked = reads_once line s.asked t.asked s.reads t.reads s.ample t.ample in
-      let other : Obeys a.replica a.history s.asked told end.history =
-      subst (λ r. Obeys r a.history s.asked told end.history) (sym same.replica)
-      (subst (λ (h : List Entries). Obeys b.replica h s.asked told end.history) (sym same.history)
-      (subst (λ (q : Read Command). Obeys b.replica b.history q told end.history) (sym asked) t.obeys)) in
-      let once = obeyed_once a.replica a.history last.history end.history s.asked text told inside s.obeys other in
+      let other : Obeys a.replica a.history s.asked second end.history =
+      subst (λ r. Obeys r a.history s.asked second end.history) (sym same.replica)
+      (subst (λ (h : List Entries). Obeys b.replica h s.asked second end.history) (sym same.history)
+      (subst (λ (q : Read Command). Obeys b.replica b.history q second end.history) (sym asked) t.obeys)) in
+      let once = obeyed_once a.replica a.history last.history end.history s.asked text second inside s.obeys other in
       record {
         text_same = once.0;
         sheet_same = record { replica = s.replica ∙ same.replica ∙ sym t.replica; history = once.1 };
@@ -170,8 +170,8 @@ module _ (a b last end : SheetView) (text told : List ℕ) (same : IsSameSheet a
             inside s.obeys;
       }
 
-  stays_once : (reply : List ℕ) → (text ≡ reply) × (last ≡ a) → (told ≡ reply) × (end ≡ b)
-      → IsSameStep last end text told
+  stays_once : (reply : List ℕ) → (text ≡ reply) × (last ≡ a) → (second ≡ reply) × (end ≡ b)
+      → IsSameStep last end text second
   stays_once reply s t = record {
     text_same = s.0 ∙ sym t.0;
     sheet_same = record {
@@ -181,27 +181,27 @@ module _ (a b last end : SheetView) (text told : List ℕ) (same : IsSameSheet a
     inside = subst (λ (x : SheetView). IsInGrid (joined_history x.history)) (sym s.1) inside;
   }
 
-  replied_once : (line : List ℕ) → Replies Serves a line text last → Replies Serves b line told end
-      → IsSameStep last end text told
+  replied_once : (line : List ℕ) → Replies Serves a line text last → Replies Serves b line second end
+      → IsSameStep last end text second
   replied_once [] s t = stays_once [] s t
   replied_once (c ∷ cs) s t = served_once (c ∷ cs) s t
 
   handled_once : (line refused : List ℕ) (fits : Bool)
       → MatchBool fits (Replies Serves a line text last) ((text ≡ refused) × (last ≡ a))
-      → MatchBool fits (Replies Serves b line told end) ((told ≡ refused) × (end ≡ b))
-      → IsSameStep last end text told
+      → MatchBool fits (Replies Serves b line second end) ((second ≡ refused) × (end ≡ b))
+      → IsSameStep last end text second
   handled_once line refused true s t = replied_once line s t
   handled_once line refused false s t = stays_once refused s t
 
-  line_once : (line : List ℕ) → AmpleLines a line text last → AmpleLines b line told end
-      → IsSameStep last end text told
+  line_once : (line : List ℕ) → AmpleLines a line text last → AmpleLines b line second end
+      → IsSameStep last end text second
   line_once line s t = handled_once (without_return line) _ (nat_le (length line) LINE_LIMIT) s t
 
-run_once : (lines : List (List ℕ)) (a b last end : SheetView) (text told : List ℕ) → IsSameSheet a b
-    → IsInGrid (joined_history a.history) → Run AmpleLines a lines text last → Run AmpleLines b lines told end
-    → IsSameStep last end text told
-run_once [] a b last end text told same inside s t = stays_once a b last end text told same inside [] s t
-run_once (line ∷ lines) a b last end text told same inside s t =
+run_once : (lines : List (List ℕ)) (a b last end : SheetView) (text second : List ℕ) → IsSameSheet a b
+    → IsInGrid (joined_history a.history) → Run AmpleLines a lines text last → Run AmpleLines b lines second end
+    → IsSameStep last end text second
+run_once [] a b last end text second same inside s t = stays_once a b last end text second same inside [] s t
+run_once (line ∷ lines) a b last end text second same inside s t =
     let first = line_once a b s.1 t.1 s.0 t.0 same inside line s.3 t.3 in
     let others = run_once lines s.1 t.1 last end s.2 t.2 first.sheet_same first.inside s.5 t.5 in
     record {

@@ -13,7 +13,7 @@ use Rattle.ps_sheet.specs.Edits.{delta_of_edit}
 use Rattle.ps_sheet.specs.Merges.{IsNewsDelta}
 use Rattle.ps_sheet.specs.Sheet.{SheetView, Takes}
 use Rattle.ps_csv.specs.Exports.{entry_text, exported, exported_entries, held_in}
-use Rattle.ps_lines.specs.PullReplies.{HandsOut}
+use Rattle.ps_lines.specs.PullReplies.{IsPullReply}
 use Rattle.ps_lines.specs.Commands.{Read, ReadsLine}
 use Rattle.ps_lines.specs.Replies.{done_text, entries_reply, entry_reply, refusal_text, replica_text, rows_text}
 use Rattle.ps_lines.specs.Replies.{same_text, value_text, version_text}
@@ -49,7 +49,7 @@ Obeys replica history (Ok (Entry cell)) text next =
 Obeys replica history (Ok (AllEntries first last)) text next = (next ≡ history)
     × (text ≡ entries_reply ((spanned first last).height) (exported_entries (held_in history) (spanned first last)))
 Obeys replica history (Ok (Pull from most)) text next =
-    (next ≡ history) × HandsOut history from (unwrap_or most 1) text
+    (next ≡ history) × IsPullReply history from (unwrap_or most 1) text
 Obeys replica history (Ok (Push delta)) text next = Takes delta history next × (text ≡ done_text (length next))
 Obeys replica history (Ok (Merge delta)) text next = IsMerged delta history text next
 Obeys replica history (Ok (Replica named)) text next = (next ≡ history) × (text ≡ replica_text replica)

@@ -5,7 +5,7 @@ use Rattle.ps_value.specs.declared.value.Value.{Value}
 use Rattle.ps_delta.specs.Deltas.{Entries}
 use Rattle.ps_delta.specs.declared.edit.Edit.{Edit as SheetEdit}
 use Rattle.ps_lines.specs.Commands.{Read, ReadsLine}
-use Rattle.ps_lines.specs.PullReplies.{HandsOn}
+use Rattle.ps_lines.specs.PullReplies.{RepliesWith}
 use Rattle.ps_lines.specs.Replies.{done_text, entries_reply, entry_reply, refusal_text, replica_text}
 use Rattle.ps_lines.specs.Replies.{rows_text, same_text, value_text, version_text}
 use Rattle.ps_lines.specs.declared.command.Command.{Command}
@@ -44,13 +44,13 @@ merged_text (New number) = done_text number
 merged_text (Known number) = same_text number
 
 -- the reply that an answer becomes
-abbrev pub told : {X : Type 0} → (X → List ℕ) → Read X → List ℕ
-told text (Ok answer) = text answer
-told text (Err refusal) = refusal_text refusal
+abbrev pub answer_text : {X : Type 0} → (X → List ℕ) → Read X → List ℕ
+answer_text text (Ok answer) = text answer
+answer_text text (Err refusal) = refusal_text refusal
 
 -- a method gave an answer, and the reply has it
 abbrev pub TellsAnswer : {X : Type 0} → (Read X → Type 0) → (X → List ℕ) → List ℕ → Type 0
-TellsAnswer {X} Call text reply = (answer : Read X) × Call answer × (reply ≡ told text answer)
+TellsAnswer {X} Call text reply = (answer : Read X) × Call answer × (reply ≡ answer_text text answer)
 
 -- what a board does if a line asks for this: the reply, and the board afterwards. A pull asks for at least one delta,
 -- so that no delta comes back only at the end
@@ -64,7 +64,7 @@ Obeyed calls old (Ok (Entry cell)) reply new = TellsAnswer (λ answer. calls.hol
 Obeyed calls old (Ok (AllEntries first last)) reply new = TellsAnswer
     (λ answer. calls.lists old (spanned first last) answer new) (entries_reply ((spanned first last).height)) reply
 Obeyed calls old (Ok (Pull from most)) reply new = (answer : Read (List Entries))
-    × calls.pulls old from (max (unwrap_or most 1) 1) answer new × HandsOn from (unwrap_or most 1) answer reply
+    × calls.pulls old from (max (unwrap_or most 1) 1) answer new × RepliesWith from (unwrap_or most 1) answer reply
 Obeyed calls old (Ok (Push delta)) reply new =
     TellsAnswer (λ answer. calls.receives old delta answer new) done_text reply
 Obeyed calls old (Ok (Merge delta)) reply new =

@@ -25,9 +25,9 @@ pub record Halted {State : Type 0} (Line : Answering State) (ended : Type 0) (fi
   pub sent : Appends written contents text
 
 -- what was sent (all that was put, without what waits) is a beginning of the earlier bytes and the text
-abbrev pub HandsOnly : Option (List ℕ) → List ℕ → Option (List ℕ) → List ℕ → Type 0
-HandsOnly written text contents waiting = (before all handed : List ℕ) → written ≡ Some before → contents ≡ Some all
-    → all ≡ handed ++ waiting → (rest : List ℕ) × (handed ++ rest ≡ before ++ text)
+abbrev pub SendsOnly : Option (List ℕ) → List ℕ → Option (List ℕ) → List ℕ → Type 0
+SendsOnly written text contents waiting = (before all delivered : List ℕ) → written ≡ Some before → contents ≡ Some all
+    → all ≡ delivered ++ waiting → (rest : List ℕ) × (delivered ++ rest ≡ before ++ text)
 
 -- COVERED: there is a kept state of the board, after the first lines of the bytes and before the others that were
 -- carried out. What was sent is a beginning of the replies to these first lines. If no reply was sent, nothing needs to
@@ -44,7 +44,7 @@ pub record IsCovered {State : Type 0} (Line : Answering State) (covers : State �
   pub run : Run Line first lines text state
   pub since : Run Line state others due last
   pub kept : covers state ⊎ (text ≡ [])
-  pub handed : HandsOnly written text contents waiting
+  pub delivered : SendsOnly written text contents waiting
 
 -- what fits a board still fits it after a line
 abbrev pub StaysFit : {Keeper State : Type 0} → Answering State → (Keeper → State → Type 0) → Type 0

@@ -36,7 +36,7 @@ pub trait Delivery<K> {
         ensures held { 0 < result → holds_back };
 
     /// Sends all bytes that wait.
-    fn hand_on(sink: &mut K) -> Result<(), Failed>
+    fn flush(sink: &mut K) -> Result<(), Failed>
         ensures same { Keeps (contents sink.old) (contents sink.new) }
         ensures flushed { OnOk result (waiting sink.new ≡ []) }
         ensures calm { OnOk result (failures sink.new ≡ failures sink.old) }
@@ -64,7 +64,7 @@ impl<K: Sink> Delivery<K> for AtOnce {
         0
     }
 
-    fn hand_on(sink: &mut K) -> Result<(), Failed> {
+    fn flush(sink: &mut K) -> Result<(), Failed> {
         hand_on(sink)
     }
 }
@@ -93,7 +93,7 @@ impl<K: Sink + Drop, L: Ledger> Delivery<HeldOutput<K, L>> for HeldBack {
         sink.room.bytes.len()
     }
 
-    fn hand_on(sink: &mut HeldOutput<K, L>) -> Result<(), Failed> {
+    fn flush(sink: &mut HeldOutput<K, L>) -> Result<(), Failed> {
         hand_on(sink)
     }
 }

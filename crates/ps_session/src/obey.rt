@@ -3,7 +3,7 @@ ghost use Rattle.std.specs.Prelude.{◌≡◌, ◌<◌, List, Ok, OnErr, OnOk, m
 ghost use Rattle.ps_device.specs.Device.{HoldsBack};
 ghost use Rattle.ps_delta.specs.Deltas.{Entries};
 ghost use Rattle.ps_session.specs.Boards.{Obeyed, TellsAnswer, merged_text};
-ghost use Rattle.ps_lines.specs.PullReplies.{HandsOn};
+ghost use Rattle.ps_lines.specs.PullReplies.{RepliesWith};
 ghost use Rattle.ps_lines.specs.Commands.{Read};
 ghost use Rattle.ps_session.specs.Inside.Holds.{Tells};
 ghost use Rattle.ps_lines.specs.Replies.{done_text, entries_reply, entry_reply, reply_text, rows_text};
@@ -84,7 +84,12 @@ fn obey<R: Threads + Sync, B: Board<M>, M, W: Watcher, K, D: Delivery<K>>(
         Command::Rows(first, last) => show_table(alloc, Rect::new(first, last), board),
         Command::Entry(cell) => show_entry(alloc, cell, board),
         Command::Entries(first, last) => list_entries(alloc, Rect::new(first, last), board),
-        Command::Pull { from, most } => hand_out(alloc, from, most.unwrap_or(1) as usize, board),
+        Command::Pull { from, most } => reply_to_pull(
+            alloc,
+            from,
+            most.unwrap_or(1) as usize,
+            board,
+        ),
         Command::Push(delta) => take_in(threads, alloc, delta, board, meter),
         Command::Merge(delta) => merge_in(threads, alloc, delta, board, meter),
         Command::Replica(_) => Reply::Replica(board.replica()),
@@ -128,9 +133,9 @@ fn list_entries<B: Board<M>, M>(alloc: Global, rect: Rect, board: &mut B) -> Rep
 /// Returns the reply to a client that has the first `from` deltas: at most `most` of the next, as many as one line
 /// holds.
 #[inline(always)]
-fn hand_out<B: Board<M>, M>(alloc: Global, from: u64, most: usize, board: &mut B) -> Reply
+fn reply_to_pull<B: Board<M>, M>(alloc: Global, from: u64, most: usize, board: &mut B) -> Reply
     ensures { (answer : Read (List Entries)) × B.calls.pulls board.old from (max most 1) answer board.new
-        × HandsOn from most answer (reply_text result) }
+        × RepliesWith from most answer (reply_text result) }
 {
     // at least one, so that no delta comes back only at the end
     let deltas = match board.pull(alloc, from, most.max(1)) {

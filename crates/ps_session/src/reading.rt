@@ -43,7 +43,7 @@ fn release<B: Board<M>, M, K, D: Delivery<K>, Q: Keeper<B>>(
         Ok(()) => {}
         Err(_) => return Err(RunFault::Keep),
     }
-    match D::hand_on(sink) {
+    match D::flush(sink) {
         Ok(()) => Ok(()),
         Err(_) => Err(RunFault::Sink),
     }

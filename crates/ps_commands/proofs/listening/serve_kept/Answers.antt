@@ -23,9 +23,9 @@ device_send = view_send _ _ _ _ _ (declared_send (inside.the_type kept_file.the_
   ),
 ))
 
-pub returns-in-Ok-tell_closed-clause-told : goal.returns-in-Ok-tell_closed-clause-told
-returns-in-Ok-tell_closed-clause-told g c =
-    Appends-append _ _ _ _ _ c.in-Ok.ensures.told c.in-Ok-tell_closed.ensures.told
+pub returns-in-Ok-tell_closed-clause-printed : goal.returns-in-Ok-tell_closed-clause-printed
+returns-in-Ok-tell_closed-clause-printed g c =
+    Appends-append _ _ _ _ _ c.in-Ok.ensures.printed c.in-Ok-tell_closed.ensures.printed
 
 pub serve_with_journal-requires-send-D : goal.serve_with_journal-requires-send-D
 serve_with_journal-requires-send-D g c κs within = param_send _ _ (arg_send _ yes _ device_send)

@@ -15,11 +15,11 @@ returns-in-Ok-clause-at g c = λ first a.
     c.in-Ok-Anew.ensures.settled (number - 1)
     (λ first to_come course.
     IsOnward (number - 1) course.numbers first
-    (seen c.hand_between.new.server to_come (g.O.Sink.contents c.hand_between.new.out)))
-    (outside_anew c.args.position number first _ a taken.1) c.in-Ok.ensures.handed)
+    (seen c.write_between.new.server to_come (g.O.Sink.contents c.write_between.new.out)))
+    (outside_anew c.args.position number first _ a taken.1) c.in-Ok.ensures.written)
 
-pub returns-in-Err-hand_between-clause-halted : goal.returns-in-Err-hand_between-clause-halted
-returns-in-Err-hand_between-clause-halted g c = λ first a.
+pub returns-in-Err-write_between-clause-halted : goal.returns-in-Err-write_between-clause-halted
+returns-in-Err-write_between-clause-halted g c = λ first a.
     let number = c.in-Ok-Anew.number in
     let taken = rw c.in-Ok-Anew.field-0-is at c.in-Ok-Anew.ensures.taken in
     taken_then c.args.position first c.args.server.now c.bring.new.server (g.I.Intake.to_come c.args.intake.now)
@@ -27,36 +27,36 @@ returns-in-Err-hand_between-clause-halted g c = λ first a.
     (g.I.Intake.held c.args.intake.now) (broughts.Anew number) c.in-Ok-Anew.ensures.replied taken
     c.in-Ok-Anew.ensures.settled (number - 1)
     (λ first to_come course. (held : List ℕ)
-    → IsHalted c.in-Err-hand_between.fault held first
-    (seen c.hand_between.new.server to_come (g.O.Sink.contents c.hand_between.new.out)))
-    (outside_anew c.args.position number first _ a taken.1) c.in-Err-hand_between.ensures.halted
+    → IsHalted c.in-Err-write_between.fault held first
+    (seen c.write_between.new.server to_come (g.O.Sink.contents c.write_between.new.out)))
+    (outside_anew c.args.position number first _ a taken.1) c.in-Err-write_between.ensures.halted
     (g.I.Intake.held c.bring.new.intake)
 
-pub returns-in-Ok-hand_between-clause-at : goal.returns-in-Ok-hand_between-clause-at
-returns-in-Ok-hand_between-clause-at g c = λ first a.
+pub returns-in-Ok-write_between-clause-at : goal.returns-in-Ok-write_between-clause-at
+returns-in-Ok-write_between-clause-at g c = λ first a.
     let number = c.in-Ok-Known.number in
     let taken = rw c.in-Ok-Known.field-0-is at c.in-Ok-Known.ensures.taken in
     let high : c.args.position ≤ number = omega (arith, c.if-position-number.true) in
     at_further c.args.position first c.args.server.now c.bring.new.server (g.I.Intake.to_come c.args.intake.now)
     (g.I.Intake.to_come c.bring.new.intake) (g.O.Sink.contents c.args.out.now) a
     (g.I.Intake.held c.args.intake.now) (broughts.Known number) c.in-Ok-Known.ensures.replied taken
-    c.in-Ok-Known.ensures.settled number c.hand_between-in-Ok-Known.new.server
-    (g.O.Sink.contents c.hand_between-in-Ok-Known.new.out) refl high
+    c.in-Ok-Known.ensures.settled number c.write_between-in-Ok-Known.new.server
+    (g.O.Sink.contents c.write_between-in-Ok-Known.new.out) refl high
     (taken_then c.args.position first c.args.server.now c.bring.new.server (g.I.Intake.to_come c.args.intake.now)
     (g.I.Intake.to_come c.bring.new.intake) (g.O.Sink.contents c.args.out.now) a
     (g.I.Intake.held c.args.intake.now) (broughts.Known number) c.in-Ok-Known.ensures.replied taken
     c.in-Ok-Known.ensures.settled number
     (λ first to_come course.
     IsOnward number course.numbers first
-    (seen c.hand_between-in-Ok-Known.new.server to_come (g.O.Sink.contents c.hand_between-in-Ok-Known.new.out)))
+    (seen c.write_between-in-Ok-Known.new.server to_come (g.O.Sink.contents c.write_between-in-Ok-Known.new.out)))
     (outside_known c.args.position first c.args.server.now c.bring.new.server
     (g.I.Intake.to_come c.args.intake.now) (g.I.Intake.to_come c.bring.new.intake)
     (g.O.Sink.contents c.args.out.now) a (g.I.Intake.held c.args.intake.now) (broughts.Known number)
     c.in-Ok-Known.ensures.replied taken c.in-Ok-Known.ensures.settled number refl)
-    c.in-Ok-hand_between.ensures.handed)
+    c.in-Ok-write_between.ensures.written)
 
-pub returns-in-Err-hand_between-2-clause-halted : goal.returns-in-Err-hand_between-2-clause-halted
-returns-in-Err-hand_between-2-clause-halted g c = λ first a.
+pub returns-in-Err-write_between-2-clause-halted : goal.returns-in-Err-write_between-2-clause-halted
+returns-in-Err-write_between-2-clause-halted g c = λ first a.
     let number = c.in-Ok-Known.number in
     let taken = rw c.in-Ok-Known.field-0-is at c.in-Ok-Known.ensures.taken in
     taken_then c.args.position first c.args.server.now c.bring.new.server (g.I.Intake.to_come c.args.intake.now)
@@ -64,13 +64,13 @@ returns-in-Err-hand_between-2-clause-halted g c = λ first a.
     (g.I.Intake.held c.args.intake.now) (broughts.Known number) c.in-Ok-Known.ensures.replied taken
     c.in-Ok-Known.ensures.settled number
     (λ first to_come course. (held : List ℕ)
-    → IsHalted c.in-Err-hand_between-2.fault held first
-    (seen c.hand_between-in-Ok-Known.new.server to_come (g.O.Sink.contents c.hand_between-in-Ok-Known.new.out)))
+    → IsHalted c.in-Err-write_between-2.fault held first
+    (seen c.write_between-in-Ok-Known.new.server to_come (g.O.Sink.contents c.write_between-in-Ok-Known.new.out)))
     (outside_known c.args.position first c.args.server.now c.bring.new.server
     (g.I.Intake.to_come c.args.intake.now) (g.I.Intake.to_come c.bring.new.intake)
     (g.O.Sink.contents c.args.out.now) a (g.I.Intake.held c.args.intake.now) (broughts.Known number)
     c.in-Ok-Known.ensures.replied taken c.in-Ok-Known.ensures.settled number refl)
-    c.in-Err-hand_between-2.ensures.halted (g.I.Intake.held c.bring.new.intake)
+    c.in-Err-write_between-2.ensures.halted (g.I.Intake.held c.bring.new.intake)
 
 pub returns-in-Ok-Known-2-clause-at : goal.returns-in-Ok-Known-2-clause-at
 returns-in-Ok-Known-2-clause-at g c = λ first a.

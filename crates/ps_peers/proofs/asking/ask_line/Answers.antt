@@ -1,22 +1,22 @@
 use Rattle.std.proofs.Common.{◌∙◌, [], Some, ap, arith, inl, inr, sym}
-use Rattle.ps_peers.proofs.AskingLemmas.{hands_cut, hands_none, hands_stop, handed_or_failed, reply_asked}
+use Rattle.ps_peers.proofs.AskingLemmas.{writes_cut, writes_none, writes_stop, flushed_or_failed, reply_asked}
 use Rattle.ps_peers.proofs.AskingLemmas.{reply_some, reply_unflushed}
 use Rattle.ps_peers.proofs.ExchangeLemmas.{replied_takes}
 use Rattle.ps_peers.specs.Asking.{ended}
 use Rattle.ps_peers.proofs.asking.ask_line.Goals as goal
 
 pub returns-in-Err-clause-some : goal.returns-in-Err-clause-some
-returns-in-Err-clause-some g c = hands_stop [] _ _ _ _ (hands_none _ _) _ c.in-Err.ensures.taken
+returns-in-Err-clause-some g c = writes_stop [] _ _ _ _ (writes_none _ _) _ c.in-Err.ensures.taken
 
 pub returns-in-Err-count_due-clause-some : goal.returns-in-Err-count_due-clause-some
 returns-in-Err-count_due-clause-some g c =
-    hands_stop [] _ _ _ _ (hands_none _ _) _
+    writes_stop [] _ _ _ _ (writes_none _ _) _
     (replied_takes (ended c.args.line.now) c.args.peer.now c.ask.new.self
     (rw c.as_slice.ensures at c.in-Ok.ensures.replied))
 
 pub returns-in-Err-put_line-clause-some : goal.returns-in-Err-put_line-clause-some
 returns-in-Err-put_line-clause-some g c =
-    hands_cut [] _ _ _ _ (hands_none _ _) c.ask.new.self.line _ _ c.in-Ok.ensures.replied.one
+    writes_cut [] _ _ _ _ (writes_none _ _) c.ask.new.self.line _ _ c.in-Ok.ensures.replied.one
     c.in-Ok.ensures.replied.read (rw c.reply-3.ensures at c.put_line.ensures.put)
 
 pub returns-in-Err-rest-clause-some : goal.returns-in-Err-rest-clause-some
@@ -27,7 +27,7 @@ returns-in-Err-rest-clause-some g c =
 
 pub returns-in-Err-rest-clause-flushed : goal.returns-in-Err-rest-clause-flushed
 returns-in-Err-rest-clause-flushed g c = λ none.
-    elim (handed_or_failed _ _ _ c.hand_on-flushed.result c.hand_on-flushed.ensures.flushed
+    elim (flushed_or_failed _ _ _ c.hand_on-flushed.result c.hand_on-flushed.ensures.flushed
     c.hand_on-flushed.ensures.failed) [
       | inl flushed ↦ inl flushed
       | inr failed ↦ inr (omega (arith, failed, c.put_rest-rest.ensures.rises, c.in-Ok-put_line.ensures.calm))

@@ -84,5 +84,6 @@ returns-in-Err-await_news-clause-halted g c =
     (g.O.Sink.contents c.args.out.now) (g.O.Sink.contents c.pulls.out) (g.O.Sink.contents c.pulls.out)
     c.pulls.version c.pulls.invariant.followed due.0 due.1 refl in
     halted_before _ c.args.after c.args.from.now c.next_due.new.from c.await_news.new.from
-    (g.O.Sink.contents c.args.out.now) (g.O.Sink.contents c.pulls.out) (g.O.Sink.contents c.pulls.out) c.pulls.version ended _ refl
+    (g.O.Sink.contents c.args.out.now) (g.O.Sink.contents c.pulls.out) (g.O.Sink.contents c.pulls.out)
+    c.pulls.version ended _ refl
     c.in-Err-await_news.ensures.taken

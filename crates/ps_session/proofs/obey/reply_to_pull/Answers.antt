@@ -2,8 +2,8 @@ use Rattle.std.proofs.Common.{◌∙◌, ◌<◌, Err, ap, arith, length, subst}
 use Rattle.std.proofs.lemmas.Grind.{common_steps}
 use Rattle.std.specs.Prelude.{Ok}
 use Rattle.ps_lines.specs.PullReplies.{HasNone}
-use Rattle.ps_lines.proofs.PulledDeltas.{hands_refusal}
-use Rattle.ps_session.proofs.obey.hand_out.Goals as goal
+use Rattle.ps_lines.proofs.PulledDeltas.{replies_refusal}
+use Rattle.ps_session.proofs.obey.reply_to_pull.Goals as goal
 
 pub overflow_add-result : goal.overflow_add-result
 overflow_add-result g c =
@@ -24,7 +24,7 @@ returns g c =
       Ok items,
       subst (λ m. g.B.Board.calls.pulls c.args.board.now c.args.from m (Ok items) c.pull.new.self)
           c.max.ensures c.in-Ok.ensures.pulled,
-      hands_refusal c.args.from c.args.most items refused.refusal
+      replies_refusal c.args.from c.args.most items refused.refusal
           some refused.ensures.refused
           (λ long. subst (λ ds. HasNone ds c.args.most) c.deref.ensures.value
           (c.greatest_group.ensures.none (refused.is ∙ ap Err long))),

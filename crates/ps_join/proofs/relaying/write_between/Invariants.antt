@@ -1,6 +1,6 @@
 use Rattle.std.proofs.Common.{◌≡◌, ◌≤◌, []}
 use Rattle.ps_join.specs.Relays.{IsOnward, Onward, seen}
-use Rattle.ps_join.proofs.relaying.hand_between.Given as goal
+use Rattle.ps_join.proofs.relaying.write_between.Given as goal
 
 abbrev pub invariant-pulls : goal.invariant-pulls
 invariant-pulls g l = record {
