@@ -11,19 +11,20 @@ use crate::shot::Shot;
 use crate::shown_position::ShownPosition;
 use ps_grid::Cell;
 
-/// Marks `told` as seen by `pass`, and returns what a cell then shows; none as for [`Pass::read`].
+/// Makes `pass` learn what another session has `seen`, and returns what a cell then shows. Returns `None` as
+/// [`Pass::read`] does.
 ///
 /// The contract states that a person whose new session gets another slot still sees all that the last session's replies
-/// said. `told` is the token with which the last session ended ([`crate::Seat::leave`]), and `pass` is that of the new
+/// said. `seen` is the token with which the last session ended ([`crate::Seat::leave`]), and `pass` is that of the new
 /// slot. The value is settled over a history that begins with all that the last session had seen.
-pub fn coming_back_shows_what_was_told<L: DeskName>(
+pub fn coming_back_shows_what_was_replied<L: DeskName>(
     pass: &mut Pass<L>,
-    told: &ShownPosition<L>,
+    seen: &ShownPosition<L>,
     cell: Cell,
 ) -> Option<Shot>
-    ensures told { IsPrefix told.now pass.new.list }
+    ensures seen { IsPrefix seen.now pass.new.list }
     ensures value { IfSome result (λ s. IsShown (history_of L.opening pass.new.list) cell s.value) }
 {
-    pass.learn(told);
+    pass.learn(seen);
     pass.read(cell)
 }

@@ -15,9 +15,13 @@
 //! To write a rectangle as text, a desk first copies the rectangle's cells, and then releases the lock or the published
 //! copy. So no change waits until a text is written.
 //!
-//! The contracts to use are those of [`Desk::edit`], [`Desk::receive`] and [`Desk::merge`] for changes, whose
-//! [`Receipt`] is fresh if the delta was appended, of [`Pass::read`] and [`Pass::read_all`] for values, of
-//! [`Desk::pull`] for deltas, and of [`Desk::close`] for the end.
+//! The contracts to use:
+//!
+//! - for changes, [`Desk::edit`], [`Desk::receive`] and [`Desk::merge`], whose [`Receipt`] is fresh if the delta was
+//!   appended
+//! - for values, [`Pass::read`] and [`Pass::read_all`]
+//! - for deltas, [`Desk::pull`]
+//! - for the end, [`Desk::close`]
 //!
 //! A [`Seat`] is a desk and a session's pass. It is a `Board` of `ps_session`, so `converse` uses it to answer the
 //! lines of a session. Its receipts enclose no delta, since no reply needs one. The program doesn't call
@@ -32,9 +36,9 @@
 //! A session sends no reply before its keeper (`Keeper` of `ps_session`) has a `ShownPosition` for all that the session
 //! has seen. So whatever a reply mentions is visible to everyone.
 //!
-//! Code without a session slot, such as a journal, follows the shown list by a `ShownPosition` of its own.
-//! [`Desk::later`] moves this position on, and returns the deltas after a number, without a change to what any pass has
-//! seen. [`Desk::close_at`] moves the position to the end of the list when the desk ends.
+//! Code without a session slot, such as a journal, follows the shown list by a `ShownPosition` of its own. A call of
+//! [`Desk::later`] moves this position forward, and returns the deltas after a number. It doesn't change what any pass
+//! has seen. When the desk ends, [`Desk::close_at`] moves the position to the end of the list.
 //!
 //! A session may wait for more changes ([`Seat`]'s `wait`), while its [`Presence`] says whether its peer still waits.
 //! Code without a slot waits with [`Desk::news`]. Both waits sleep without the lock, and end at a shown change or at an
@@ -75,7 +79,7 @@ mod state;
 mod threads;
 
 pub use desk::Desk;
-pub use laws::coming_back_shows_what_was_told;
+pub use laws::coming_back_shows_what_was_replied;
 pub use name::DeskName;
 pub use parts::Parts;
 pub use pass::Pass;

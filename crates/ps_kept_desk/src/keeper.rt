@@ -90,12 +90,12 @@ impl<L: DeskName, D: Device + Drop> DeskKeeper<L, D> {
 
     /// Ends the desk and its keeper, and returns the sheet and the journal.
     ///
-    /// `passes` are the passes of all slots, and `told` the tokens of what the sessions reported as durable. Unless the
-    /// device failed before, the call adds the lines that aren't durable yet, and syncs the journal once more. Whether
-    /// this last sync succeeded is `synced` of the result.
+    /// `passes` are the passes of all slots, and `reported` the tokens of what the sessions reported as durable. Unless
+    /// the device failed before, the call adds the lines that aren't durable yet, and syncs the journal once more.
+    /// Whether this last sync succeeded is `synced` of the result.
     ///
     /// The sheet is what [`Desk::close`] would return. The journal's durable lines are those of a beginning of the
-    /// sheet's history, and this beginning has all changes that `told` stands for. If the last sync succeeded, the
+    /// sheet's history, and this beginning has all changes that `reported` stands for. If the last sync succeeded, the
     /// beginning is the whole history.
     ///
     /// Cost: that of freeing the published copies, and of a sync.
@@ -105,7 +105,7 @@ impl<L: DeskName, D: Device + Drop> DeskKeeper<L, D> {
         alloc: Global,
         desk: Desk<L, W>,
         passes: Vec<Pass<L>>,
-        told: &[DurablePosition<L>],
+        reported: &[DurablePosition<L>],
     ) -> Ended<D>
         requires passes { vec_len passes ≡ desk }
         ensures replica { result.sheet.replica ≡ L.replica }
@@ -113,12 +113,14 @@ impl<L: DeskName, D: Device + Drop> DeskKeeper<L, D> {
         ensures grown { length result.sheet.history ≡ length L.opening + appended_of passes.items }
         ensures one { IsClosed L.opening result.sheet.history passes.items }
         ensures sheet { IsSheet result.sheet }
-        ensures told { EndsKept L.replica L.opening result.sheet.history told.now result.journal.kept }
+        ensures reported { EndsKept L.replica L.opening result.sheet.history reported.now result.journal.kept }
         ensures all { OnOk result.synced (TellHistory L.replica result.journal.kept result.sheet.history) }
         ensures journal { IsJournal result.journal }
     {
         let DeskKeeper { record } = self;
-        record.into_inner().close(wait, alloc, desk, passes, told)
+        record
+            .into_inner()
+            .close(wait, alloc, desk, passes, reported)
     }
 }
 

@@ -69,8 +69,8 @@ impl<L: DeskName> DurablePosition<L> {
         self.shown.has(position)
     }
 
-    /// Returns whether the beginning of `other` is at least as long as this one. Both are beginnings of the same list,
-    /// so then the beginning of `other` begins with this one.
+    /// Returns whether the beginning of `other` begins with this one. Both are beginnings of the same list, so the call
+    /// compares only their lengths.
     pub fn begins(&self, other: &DurablePosition<L>) -> bool
         ensures { MatchBool result
             (IsPrefix self.now other.now × (length self.now ≤ length other.now))
@@ -80,7 +80,7 @@ impl<L: DeskName> DurablePosition<L> {
     }
 }
 
-/// What [`DeskKeeper::close`](crate::DeskKeeper::close) returns of the desk and its keeper.
+/// The sheet and the journal that [`DeskKeeper::close`](crate::DeskKeeper::close) returns.
 #[derive(Drop)]
 pub struct Ended<D: Device + Drop> {
     /// The desk's sheet.
@@ -244,7 +244,7 @@ impl<L: DeskName, D: Device + Drop> Record<L, D> {
         alloc: Global,
         desk: Desk<L, W>,
         passes: Vec<Pass<L>>,
-        told: &[DurablePosition<L>],
+        reported: &[DurablePosition<L>],
     ) -> Ended<D>
         requires passes { vec_len passes ≡ desk }
         ensures replica { result.sheet.replica ≡ L.replica }
@@ -252,13 +252,13 @@ impl<L: DeskName, D: Device + Drop> Record<L, D> {
         ensures grown { length result.sheet.history ≡ length L.opening + appended_of passes.items }
         ensures one { IsClosed L.opening result.sheet.history passes.items }
         ensures sheet { IsSheet result.sheet }
-        ensures told { EndsKept L.replica L.opening result.sheet.history told.now result.journal.kept }
+        ensures reported { EndsKept L.replica L.opening result.sheet.history reported.now result.journal.kept }
         ensures all { OnOk result.synced (TellHistory L.replica result.journal.kept result.sheet.history) }
         ensures journal { IsJournal result.journal }
     {
         let sheet = desk.close_at(wait, passes, &mut self.seen);
         let synced = self.finish(alloc, sheet.history());
-        self.audit(wait, told);
+        self.audit(wait, reported);
         let Record { journal, .. } = self;
         Ended {
             sheet,
@@ -281,11 +281,12 @@ impl<L: DeskName, D: Device + Drop> Record<L, D> {
         self.add(alloc, &history[noted..])
     }
 
-    /// Confirms that each list in `told` is durable. It always is. For one that isn't, the call would wait for ever.
-    fn audit<V: Wait>(&self, wait: &V, told: &[DurablePosition<L>])
-        ensures { All (λ list. IsPrefix list self.now.kept) told.now }
+    /// Confirms that each list in `reported` is durable. It always is. For one that isn't, the call would wait for
+    /// ever.
+    fn audit<V: Wait>(&self, wait: &V, reported: &[DurablePosition<L>])
+        ensures { All (λ list. IsPrefix list self.now.kept) reported.now }
     {
-        for kept in told {
+        for kept in reported {
             if !kept.begins(&self.kept) {
                 for _ in wait.forever() {}
                 unreachable!()

@@ -86,8 +86,8 @@ pub fn serve_in_memory<R: Net + Threads + Wait + Clock + Sync, W: Warn>(
     })
 }
 
-/// Serves sessions on a sheet as [`serve_in_memory`] does, makes their changes durable in `journal`, and returns the closed
-/// sheet and the journal.
+/// Serves sessions on a sheet as [`serve_in_memory`] does, makes their changes durable in `journal`, and returns the
+/// closed sheet and the journal.
 ///
 /// All that a reply shows or acknowledges is durable before the reply is sent. At the end the journal has all of the
 /// closed sheet's history. The server calls `warner` soon after a client pushed changes that are marked with the
@@ -101,7 +101,8 @@ pub fn serve_in_memory<R: Net + Threads + Wait + Clock + Sync, W: Warn>(
 ///
 /// `Device`, as above, and the errors of [`serve_in_memory`].
 ///
-/// Cost: that of `serve_in_memory`, and that of the syncs. One sync serves all sessions that wait for a sync at that time.
+/// Cost: that of `serve_in_memory`, and that of the syncs. One sync serves all sessions that wait for a sync at that
+/// time.
 pub fn serve_with_journal<R: Net + Threads + Wait + Clock + Sync, D: Device + Drop + Send, W: Warn>(
     resources: Resources<'_, R>,
     options: ServerOptions<'_>,
@@ -253,12 +254,12 @@ fn close<L: DeskName, W: Wait + Drop, D: Device + Drop, R: Wait>(
         return Ok((desk.close(threads, passes), None));
     };
     // The close proves all of the history durable. So no tokens of sessions, each for a part of it, are passed in.
-    let told = Vec::new(alloc);
+    let reported = Vec::new(alloc);
     let Ended {
         sheet,
         journal,
         synced,
-    } = keeper.close(threads, alloc, desk, passes, told.as_slice());
+    } = keeper.close(threads, alloc, desk, passes, reported.as_slice());
     // A sheet that isn't durable as a whole is dropped with its journal, so that nobody takes it for closed. The
     // failure carries no cause, so a lack of memory is reported as a device's failure, too.
     match synced {

@@ -19,8 +19,8 @@ invariant_of-self g c =
       seen_later _ g.L.Named.opening v c.self.invariant.1 c.close_at-sheet.new.position c.close_at-sheet.ensures.later,
     )
 
-pub returns-clause-told : goal.returns-clause-told
-returns-clause-told g c =
+pub returns-clause-reported : goal.returns-clause-reported
+returns-clause-reported g c =
     let v : RecordView = record {
       journal = c.self-2.inside.journal;
       kept = c.self-2.inside.kept;
@@ -28,8 +28,8 @@ returns-clause-told g c =
       noted = c.self-2.inside.noted;
     } in
     let h : List Entries = g.L.Named.opening in
-    let told : List (List Note) = c.args.told.now in
+    let reported : List (List Note) = c.args.reported.now in
     let whole = c.close_at-sheet.ensures.end
     ∙ ap (history_of h) (sym c.finish-synced.ensures.seen ∙ sym (ap (λ (w : RecordView). w.seen) c.self-2.view_is)) in
-    ends_kept _ h v c.self-2.invariant.1 c.close_at-sheet.result.history told whole
-    (subst (λ (w : RecordView). All (λ list. IsPrefix list w.kept) told) (sym c.self-2.view_is) c.audit.ensures)
+    ends_kept _ h v c.self-2.invariant.1 c.close_at-sheet.result.history reported whole
+    (subst (λ (w : RecordView). All (λ list. IsPrefix list w.kept) reported) (sym c.self-2.view_is) c.audit.ensures)
