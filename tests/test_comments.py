@@ -23,7 +23,7 @@ COST = re.compile(r"\bCost:\s+(?:constant|none)(?:\.(?!\w)|\s*(?:\n\s*\n|\Z))")
 # In the crates a colon and a semicolon end a sentence, too, until those of some contracts are divided.
 CRATES_ENDS = f"{ENDS}:;"
 # How many faults a file may have until it is mended.
-KNOWN = {"bench/pulls.py": 1, "build": 1, "crates/ps_desk/src/lib.rt": 1, "release/make": 1, "release/pack": 2}
+KNOWN = {"bench/pulls.py": 1, "build": 1, "release/make": 1, "release/pack": 2}
 
 
 def comments(text, form=COMMENT):

@@ -89,14 +89,14 @@ impl Screen {
         })
     }
 
-    /// What each cell shows.
+    /// Returns what each cell shows.
     pub(crate) fn shown(&self) -> &Shown
         ensures shown { result.now ≡ self.now.kept }
     {
         &self.shown
     }
 
-    /// What a cell shows.
+    /// Returns what a cell shows.
     pub(crate) fn at(&self, cell: Cell) -> Value
         ensures { result ≡ shown_at self.now.kept cell }
     {

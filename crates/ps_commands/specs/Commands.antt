@@ -1,6 +1,6 @@
 -- What the commands begin with, and what they write.
-use Rattle.std.specs.Prelude.{◌≡◌, ◌⊎◌, ◌==◌, ◌∷◌, ◌++◌, ⊤, ℕ, zero, suc, Bool, false, true, List, [], Option, None, Some}
-use Rattle.std.specs.Prelude.{if◌then◌else◌, codes, decimal}
+use Rattle.std.specs.Prelude.{◌≡◌, ◌⊎◌, ◌==◌, ◌∷◌, ◌++◌, ⊤, ℕ, zero, suc, Bool, false, true, List, [], Option, None}
+use Rattle.std.specs.Prelude.{Some, if◌then◌else◌, codes, decimal}
 use Rattle.ps_grid.specs.Rectangle.{Area}
 use Rattle.ps_delta.specs.Deltas.{joined_history}
 use Rattle.ps_shown.specs.Shown.{shown_at}

@@ -49,7 +49,7 @@ fn title_of<'a>(options: ServeOptions<'a>) -> &'a str
     }
 }
 
-/// What is asked of the server of this listener, by the words.
+/// Returns the server's options for `options` and this listener.
 fn server_options<'a>(listener: &'a TcpListener, options: ServeOptions<'a>) -> ServerOptions<'a>
     ensures sessions { result.sessions ≡ options.entry.sessions }
     ensures seats { result.seats ≡ options.entry.seats }
@@ -155,8 +155,8 @@ pub fn serve<
     }
 }
 
-/// Serves sessions over TCP on the sheet of a kept file, as [`serve_with_journal`] does, and returns the closed sheet with
-/// its journal.
+/// Serves sessions over TCP on the sheet of a kept file, as [`serve_with_journal`] does, and returns the closed sheet
+/// with its journal.
 ///
 /// It listens on `options.port` of this machine, opens the file of `name`, and writes `listening` and the port to
 /// `out`. Once `options.sessions` sessions have ended, it writes `closed` and the sheet's version. If

@@ -80,12 +80,12 @@ pub fn port_fault(fault: &ProgramFault) -> Option<PortFault>
     }
 }
 
-/// What a command opens its connections with, and what notes the first connection that breaks.
+/// The network of a command, with a note of its first connection that breaks.
 #[derive_where(Clone, Copy)]
 pub struct Ports<'a, R> {
     /// The network that listens and connects.
     pub rt: &'a R,
-    /// What notes the first connection that breaks.
+    /// The note of the first connection that breaks.
     pub broken: &'a BrokenConnection,
 }
 

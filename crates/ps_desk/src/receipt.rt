@@ -33,7 +33,7 @@ impl Enclosure for Delta {
     }
 }
 
-/// Stands in a receipt for a delta that the caller doesn't want back, and takes no time to make.
+/// Encloses nothing: a receipt has it if the caller doesn't want the delta back.
 #[derive(Clone, Copy, Debug)]
 pub struct Unenclosed;
 

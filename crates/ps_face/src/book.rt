@@ -61,9 +61,9 @@ impl Plain<Patch<'_>, Note, u64> for Add {
     ghost state = { λ patch. None };
 }
 
-/// A new book: its published list is still empty. [`crate::FaceWriter::open`] takes it and creates copies for it.
+/// A new book, whose published list is still empty. [`crate::FaceWriter::open`] takes it and creates copies for it.
 ///
-/// A contract sees a `NewBook` as its book.
+/// A contract sees a `NewBook` as the book of the crate `logbook`.
 #[derive(Drop)]
 pub struct NewBook {
     /// the atomic word that holds the length of the list

@@ -36,7 +36,7 @@ impl ShownPrefix {
         }
     }
 
-    /// Returns the beginning that readers were shown.
+    /// Returns the beginning of the published list that readers were shown.
     pub fn front(&self) -> &BookPrefix
         ensures { result.now ≡ self.now }
     {

@@ -1,9 +1,10 @@
 //! Joins two peers of the line protocol: each gets the changes of the other.
 //!
-//! [`join_once`] merges all changes of one peer at the other, and then the other way round. [`join`] goes on with each
-//! change that either peer gets, until one of them fails, refuses or closes. [`relay`] has a stream of lines
-//! instead of the second peer. It merges the deltas of an [`Intake`] at a server, and writes the server's other
-//! changes.
+//! - [`join_once`] merges all changes of one peer at the other, and then the other way round.
+//! - [`join`] does the same, and then goes on with each change that either peer gets. It ends when one of them fails,
+//!   refuses or closes.
+//! - [`relay`] has a stream of lines instead of the second peer. It merges the deltas of an [`Intake`] at a server, and
+//!   writes the server's other changes.
 //!
 //! This crate knows no sheet, and opens no connection: a peer is a `Peer` of `ps_peers`. A group of changes is passed
 //! on as the peer wrote it, in a line `merge`.

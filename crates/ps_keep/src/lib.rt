@@ -13,11 +13,12 @@
 //!
 //! A [`DigestedFile`] is a found file that has digest lines, by which a start sees damage. A digest line is the word
 //! `replica`, a space and 16 hex digits. The digits are the first 8 bytes of the MD5 of all bytes from the previous
-//! digest line on, this line included, or from the file's beginning. [`DigestedFile::read`] checks each digest line,
-//! and fails with the number of the first wrong one. If all are right, the returned file shows only its other lines.
-//! Its device appends a digest line after each write that ends a line. So a journal knows nothing of digests, and each
-//! sync of a journal with new lines writes a digest line. A file without digest lines gets them from the next sync on.
-//! The lines after the last digest line, left by a crash, aren't checked. MD5 shows accidents, not intent.
+//! digest line on, this line included, or from the file's beginning. A start calls [`DigestedFile::read`], which checks
+//! each digest line, and fails with the number of the first wrong one. If all are right, the returned file shows only
+//! its other lines. Its device appends a digest line after each write that ends a line. So a journal knows nothing of
+//! digests, and each sync of a journal with new lines writes a digest line. A file without digest lines gets them from
+//! the next sync on. The lines after the last digest line, left by a crash, aren't checked. MD5 shows accidents, not
+//! intent.
 //!
 //! Only [`open`] cuts a found file. So a caller that reads a file and then refuses it leaves the file as it was.
 //!

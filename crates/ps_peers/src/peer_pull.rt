@@ -224,7 +224,7 @@ pub fn due_news(alloc: Global, reply: &[u8], version: u64) -> Result<(), SyncFau
 /// - `Memory`: allocation failed.
 /// - `PeerRefused`: the peer replied `err`.
 ///
-/// Cost: constant, besides the wait for the peer.
+/// Cost: the wait for the peer.
 pub fn await_news<S: Source + Drop, K: Sink + Drop>(
     alloc: Global,
     from: &mut Peer<S, K>,

@@ -20,7 +20,7 @@ use std::sync::ledger::Ledger;
 use std::thread::Threads;
 use std::time::Clock;
 
-/// The outcome of a session at a desk. `K` is the type of the token for what the sent replies report.
+/// The outcome of a session at a desk. `K` is the type of the token `covered`.
 #[derive(Drop)]
 pub struct Attended<L: DeskName, K> {
     /// The session's pass, as its lines left it.

@@ -21,8 +21,8 @@
 //!
 //! The contracts to use:
 //!
-//! - [`serve_in_memory`] returns the sheet that it was given, with the changes that its slots' passes appended through all
-//!   their sessions (`IsServed`).
+//! - [`serve_in_memory`] returns the sheet that it was given, with the changes that its slots' passes appended through
+//!   all their sessions (`IsServed`).
 //! - If [`serve_with_journal`] succeeds, the journal has all of the sheet's history.
 //! - What a session reads and writes in [`attend_lines`] is the transcript of a `Seat`, a session at the desk.
 //! - [`attend_kept`] sends only what is durable, however the session ends (`IsCovered`, of `ps_session`).

@@ -30,7 +30,7 @@ use std::thread::Threads;
 /// The state of a running session, without its board and its devices.
 #[derive(Drop)]
 pub(crate) struct Conversation<'a, R> {
-    /// What its lines are read and obeyed with.
+    /// The tools that read and obey its lines.
     pub(crate) tools: Tools<'a, R>,
     /// The line that is being read.
     pub(crate) session: LineBuffer,

@@ -1,9 +1,9 @@
 //! A kept file that is squashed in place.
 //!
-//! A kept file has the lines of a replica's changes (`ps_kept`), and grows with each change. [`shorten`] reads the file
-//! as a start of the program does, and replaces it by what `squash` (`ps_squash`) makes of its lines. The new file
-//! belongs to the same replica, and has the same joined state in fewer or shorter lines. Whenever the program ends,
-//! even in the middle of the call, the name leads to the whole old file or to the whole new one.
+//! A kept file has the lines of a replica's changes (`ps_kept`), and grows with each change. A call of [`shorten`]
+//! reads the file as a start of the program does, and replaces it by what `squash` (`ps_squash`) makes of its lines.
+//! The new file belongs to the same replica, and has the same joined state in fewer or shorter lines. Whenever the
+//! program ends, even in the middle of the call, the name leads to the whole old file or to the whole new one.
 //!
 //! This crate opens no sheet to be edited, and prints nothing. It has the file's lock only until the [`NamedFile`] is
 //! dropped.

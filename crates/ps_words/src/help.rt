@@ -1,27 +1,27 @@
 //! The texts that `--help` prints.
 
-/// The help text of `--workers`. It has the range 1 to `WORKERS`.
+/// The help text of `--workers`. It names the range 1 to `WORKERS`.
 pub const WORKERS_HELP: &str =
     "how many threads may evaluate formulas, 1 to 16; no reply depends on it";
 
-/// The help text of `--replica`. It has the range 1 to `REPLICAS`.
+/// The help text of `--replica`. It names the range 1 to `REPLICAS`.
 pub const REPLICA_HELP: &str = "the number of this replica, 1 to 32";
 
 /// The help text of `--port` of `serve`.
 pub const PORT_HELP: &str = "the port of this machine to listen on, 1 to 65535";
 
-/// The help text of `--sessions` of `serve`. It has the range 1 to `MOST_SESSIONS`.
+/// The help text of `--sessions` of `serve`. It names the range 1 to `MOST_SESSIONS`.
 pub const SESSIONS_HELP: &str =
     "how many sessions to serve before it ends, 1 to 1000000; without it, until it is stopped";
 
-/// The help text of `--seats` of `serve`: how many slots it has. It has the range 1 to `SEATS`.
+/// The help text of `--seats` of `serve`: how many slots it has. It names the range 1 to `SEATS`.
 pub const SEATS_HELP: &str =
     "how many sessions to serve at a time, 1 to 256; each adds 40 instructions to a change, free or not";
 
-/// The help text of `--wait` of `serve`. It has the range 0 to `LONGEST_WAIT`, in seconds.
+/// The help text of `--wait` of `serve`. It names the range 0 to `LONGEST_WAIT`, in seconds.
 pub const WAIT_HELP: &str = "how many seconds a connection may wait for a session slot, 0 to 60";
 
-/// The help text of `--idle` of `serve`. It has the range 1 to `LONGEST_IDLE`, in seconds.
+/// The help text of `--idle` of `serve`. It names the range 1 to `LONGEST_IDLE`, in seconds.
 pub const IDLE_HELP: &str =
     "how many seconds a peer may be silent, 1 to 86400; without it, 30 until its first line, then no limit, or 300 for a browser";
 
@@ -37,11 +37,11 @@ pub const SQUASH_FIRST_HELP: &str =
 pub const SQUASHED_HELP: &str =
     "the kept file that is squashed in its place, while no other program has it";
 
-/// The help text of `--until` of `squash`. It has the range 1 to `MOST_CHANGES`.
+/// The help text of `--until` of `squash`. It names the range 1 to `MOST_CHANGES`.
 pub const UNTIL_HELP: &str =
     "takes only so many change lines, from the first on, 1 to 1000000000; without it, all";
 
-/// The help text of `--without` of `squash`. It has the range 1 to `REPLICAS`.
+/// The help text of `--without` of `squash`. It names the range 1 to `REPLICAS`.
 pub const WITHOUT_HELP: &str =
     "leaves out what this replica assigned, counted and chose, 1 to 32; without it, nothing";
 
@@ -75,13 +75,13 @@ pub const CHECK_HELP: &str = "says whether both replicas hold the same, and merg
 /// The help text of `--from` of `follow`.
 pub const FOLLOWED_HELP: &str = "the port of the replica that is followed, 1 to 65535";
 
-/// The help text of `--after` of `follow`. It has the range 0 to `MOST_CHANGES`.
+/// The help text of `--after` of `follow`. It names the range 0 to `MOST_CHANGES`.
 pub const AFTER_HELP: &str = "passes over so many changes, from the first on, 0 to 1000000000";
 
 /// The help text of `--until-now`.
 pub const UNTIL_NOW_HELP: &str = "ends once all that the replica has is written";
 
-/// The help text of `--every` of `follow`. It has the range 1 to `LONGEST_PAUSE`, in milliseconds.
+/// The help text of `--every` of `follow`. It names the range 1 to `LONGEST_PAUSE`, in milliseconds.
 pub const EVERY_HELP: &str =
     "has no effect any more, as each change comes at once; milliseconds, 1 to 60000";
 
