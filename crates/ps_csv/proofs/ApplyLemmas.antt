@@ -1,6 +1,6 @@
 -- The records of a table, assigned one after another.
-use Rattle.std.proofs.Common.{◌≡◌, ◌+◌, ◌<◌, ◌≤◌, ◌∷◌, ◌++◌, ◌∙◌, [], ℕ, List, map, length, take, drop, Bool}
-use Rattle.std.proofs.Common.{true, false}
+use Rattle.std.proofs.Common.{◌≡◌, ◌≢◌, ◌⊎◌, ◌+◌, ◌<◌, ◌≤◌, ◌∷◌, ◌++◌, ◌∙◌, [], ℕ, List, map, length, take, drop, Bool}
+use Rattle.std.proofs.Common.{true, false, inl, inr}
 use Rattle.std.proofs.Common.{refl, ap, sym, subst, arith, append_assoc, Result, Ok, Err, get_or}
 use Rattle.std.specs.Result.{IsOkAnd}
 use Rattle.std.specs.Global.{Vec}
@@ -217,3 +217,14 @@ pub applying_next : (r : ℕ) (h k : List Entries) (all : List Cells) (n : ℕ)
     → IsApplying r h all n (x.items ∷ cells_of_each rest) k
 applying_next r h k all n items rest x is on =
     subst (λ (xs : List (Vec (ℕ × Content))). IsApplying r h all n (cells_of_each xs) k) is on
+
+-- memory ends after n records, with these deltas, and m is reported
+pub stopped_at : (r : ℕ) (h made deltas : List Entries) (all rest : List Cells) (n m : ℕ)
+    → IsApplying r h all n rest (h ++ made) → deltas ≡ made
+    → ((deltas ≡ []) × (m ≡ 0)) ⊎ ((deltas ≢ []) × (m ≡ n))
+    → Assigned r h (take m all) (h ++ deltas)
+stopped_at r h made deltas all rest n m on kept (inl none) =
+    assigned_so_few r h (h ++ deltas) all m none.1
+    (ap (λ (ds : List Entries). h ++ ds) none.0 ∙ append-nil h)
+stopped_at r h made deltas all rest n m on kept (inr some) =
+    rw (kept, some.1) on.so_far

@@ -4,6 +4,7 @@ pub mod EntriesHeld
 pub mod ExportLemmas
 pub mod ExtentLemmas
 pub mod FaultLemmas
+pub mod OneCountFits
 pub mod ReadsWritten
 pub mod RecordLemmas
 pub mod TableLemmas

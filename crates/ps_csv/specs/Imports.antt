@@ -1,5 +1,5 @@
 -- What an import does to a source and to a sheet.
-use Rattle.std.specs.Prelude.{◌≡◌, ℕ, ◌<◌, ◌≤◌, List, [], ◌∷◌, ◌++◌, length, take, Ok, Option}
+use Rattle.std.specs.Prelude.{◌≡◌, ◌≢◌, ℕ, ◌<◌, ◌≤◌, List, [], ◌∷◌, ◌++◌, length, drop, take, Ok, Option}
 use Rattle.std.specs.Io.KnownBytes.{Consumes, IsAtEnd}
 use Rattle.ps_grid.specs.declared.size.TheConstants.{COLUMNS, ROWS}
 use Rattle.ps_delta.specs.Deltas.{Entries, joined_history}
@@ -36,7 +36,12 @@ pub record ImportsTable (bytes : List ℕ) (records fields : ℕ) (old new : She
   pub records_are : records ≡ length table
   pub fields_are : fields ≡ most_fields table
 
--- only the first records of the table were assigned, `applied` of them
+-- BEGINS FILLED: the first of these lists exists, and has a cell
+abbrev pub BeginsFilled : List Cells → Type 0
+BeginsFilled batches = (cells : Cells) × (others : List Cells) × (cells ≢ []) × (batches ≡ cells ∷ others)
+
+-- only the first records of the table were assigned, `applied` of them. At least one of these has contents, so the
+-- history grew. The next record has contents too: its delta couldn't be made. No other number fits (`OneCountFits`)
 pub record StopsAfter (bytes : List ℕ) (applied : ℕ) (old new : SheetView) : Type 0 where
   pub table : List Record
   pub batches : List Cells
@@ -44,4 +49,5 @@ pub record StopsAfter (bytes : List ℕ) (applied : ℕ) (old new : SheetView) :
   pub read : IsTable bytes table
   pub said : RecordsSay (joined_history old.history) 0 table batches
   pub assigned : Assigned old.replica old.history (take applied batches) new.history
-  pub short : applied < length batches
+  pub grown : length old.history < length new.history
+  pub next : BeginsFilled (drop applied batches)

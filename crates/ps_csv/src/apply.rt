@@ -1,7 +1,7 @@
 //! The contents of a table, assigned to a sheet.
 
-ghost use Rattle.std.specs.Prelude.{◌≡◌, ◌⊎◌, ◌↔◌, ◌<◌, ◌≤◌, ◌∷◌, ◌++◌, [], List, true, None, Err, length, map, take};
-ghost use Rattle.std.specs.Prelude.{IfErr, OnOk, OnErr};
+ghost use Rattle.std.specs.Prelude.{◌≡◌, ◌≢◌, ◌⊎◌, ◌↔◌, ◌<◌, ◌≤◌, ◌∷◌, ◌++◌, [], List, true, None, Err};
+ghost use Rattle.std.specs.Prelude.{IfErr, OnOk, OnErr, drop, length, map, take};
 ghost use Rattle.std.specs.List.Sorted.{IsStrictlyIncreasing};
 ghost use Rattle.ps_grid.specs.declared.parties.TheConstants.{REPLICAS};
 ghost use Rattle.ps_delta.specs.Deltas.{Entries, joined_history};
@@ -11,7 +11,7 @@ ghost use Rattle.ps_sheet.specs.Sheet.{IsSheet};
 ghost use Rattle.ps_delta.specs.declared.edit.Edit.TheVariants.{SetAll};
 ghost use Rattle.ps_csv.specs.Records.{Record, RecordsSay};
 ghost use Rattle.ps_csv.specs.Inside.{cells_of_each};
-ghost use Rattle.ps_csv.specs.Imports.{Assigned};
+ghost use Rattle.ps_csv.specs.Imports.{Assigned, BeginsFilled};
 
 use crate::fault::ImportFault;
 use ps_content::Content;
@@ -38,7 +38,9 @@ pub(crate) fn apply<R: Threads + Sync, L: Ledger>(
         (Assigned sheet.old.replica sheet.old.history (cells_of_each batches.items) sheet.new.history) }
     ensures stopped { IfErr result (λ f. Assigned sheet.old.replica sheet.old.history
         (take f.applied (cells_of_each batches.items)) sheet.new.history) }
-    ensures short { IfErr result (λ f. f.applied < length batches.items) }
+    ensures next { IfErr result (λ f. 0 < f.applied
+        → BeginsFilled (drop f.applied (cells_of_each batches.items))) }
+    ensures grown { IfErr result (λ f. 0 < f.applied → length sheet.old.history < length sheet.new.history) }
     ensures memory { IfErr result (λ f. (f.refusal ≡ Refusal.Memory) × (f.reader_error ≡ None)) }
     ensures none { IfErr result (λ f. f.applied ≡ 0 → (sheet.new ≡ sheet.old) × (meter.new ≡ meter.old)) }
     ensures replica { sheet.new.replica ≡ sheet.old.replica }
@@ -110,7 +112,9 @@ fn make_all(
         (sheet.now.history ++ arrivals.new.deltas)) }
     ensures stopped { IfErr result (λ f. Assigned sheet.now.replica sheet.now.history
         (take f.applied (cells_of_each batches.items)) (sheet.now.history ++ arrivals.new.deltas)) }
-    ensures short { IfErr result (λ f. f.applied < length batches.items) }
+    ensures next { IfErr result (λ f. 0 < f.applied
+        → BeginsFilled (drop f.applied (cells_of_each batches.items))) }
+    ensures some { IfErr result (λ f. 0 < f.applied → arrivals.new.deltas ≢ []) }
     ensures memory { IfErr result (λ f. (f.refusal ≡ Refusal.Memory) × (f.reader_error ≡ None)) }
     ensures none { IfErr result (λ f. f.applied ≡ 0 → arrivals.new.deltas ≡ []) }
     ensures follow { Follow sheet.now.history arrivals.new }
@@ -120,6 +124,7 @@ fn make_all(
         match assign(alloc, sheet.replica(), cells, arrivals) {
             Ok(()) => {}
             Err(refusal) => {
+                let applied = count_of(applied, arrivals);
                 return Err(ImportFault {
                     refusal,
                     applied,
@@ -130,6 +135,13 @@ fn make_all(
         applied += 1;
     }
     Ok(())
+}
+
+/// The number of records to report when memory ends after this many: 0 if they have no contents, so no deltas either.
+fn count_of(applied: usize, arrivals: &Arrivals) -> usize
+    ensures { ((arrivals.now.deltas ≡ []) × (result ≡ 0)) ⊎ ((arrivals.now.deltas ≢ []) × (result ≡ applied)) }
+{
+    if arrivals.is_empty() { 0 } else { applied }
 }
 
 /// Adds the delta of one record to `arrivals`, if the record has any contents.
@@ -147,6 +159,7 @@ fn assign(
     ensures refused { IfErr result (λ e. (e ≡ Refusal.Memory) ⊎ ((h : List Entries) → Follow h arrivals.old
         → delta_of_edit replica (joined_history (h ++ arrivals.old.deltas)) (SetAll cells.items) ≡ Err e)) }
     ensures kept { OnErr result (arrivals.new.deltas ≡ arrivals.old.deltas) }
+    ensures filled { OnErr result (cells.items ≢ []) }
 {
     match Batch::new(cells) {
         Some(batch) => match arrivals.edit(alloc, replica, Edit::SetAll(batch)) {

@@ -13,7 +13,9 @@ use ps_grid::Refusal;
 pub struct ImportFault {
     /// The reason.
     pub refusal: Refusal,
-    /// The number of records that were assigned and stay so, counted from the first: above 0 only when out of memory.
+    /// The number of records before the one whose delta couldn't be made, or 0 if nothing was assigned.
+    ///
+    /// Above 0 only when out of memory. The first `applied` records then stay assigned, and the next one has contents.
     pub applied: usize,
     /// The error of `csv`'s own reader, if that failed before any fault of the table. `None` for all other faults.
     pub reader_error: Option<Error>,

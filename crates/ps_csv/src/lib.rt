@@ -39,6 +39,6 @@ pub use entries::{entries_text, entry_of, export_entries};
 pub use fault::ImportFault;
 pub use holds::Holds;
 pub use incoming::{Imported, import, import_watched};
-pub use laws::entries_come_back;
+pub use laws::{entries_come_back, one_count_fits};
 pub use shown::{export, exported_text};
 pub use watcher::{TableWatcher, UnwatchedTable};

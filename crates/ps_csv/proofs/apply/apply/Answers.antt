@@ -1,6 +1,4 @@
-use Rattle.std.proofs.Common.{◌≡◌, ℕ, ◌∙◌, ap, refl, subst, sym, List}
-use Rattle.ps_delta.specs.Deltas.{Entries}
-use Rattle.ps_csv.specs.Imports.{Assigned}
+use Rattle.std.proofs.Common.{ap, refl}
 use Rattle.ps_csv.specs.Inside.{cells_of_each}
 use Rattle.ps_csv.proofs.ApplyLemmas.{assigned_all_none, assigned_so_few}
 use Rattle.ps_csv.proofs.apply.apply.Goals as goal

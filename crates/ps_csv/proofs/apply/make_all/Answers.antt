@@ -5,7 +5,7 @@ use Rattle.ps_delta.specs.Deltas.{Entries}
 use Rattle.ps_csv.specs.Imports.{Assigned}
 use Rattle.ps_csv.specs.Inside.{cells_of_each}
 use Rattle.ps_csv.proofs.ApplyLemmas.{IsApplying, applying_from, applying_goes_on, applying_next}
-use Rattle.ps_csv.proofs.ApplyLemmas.{next_ascends, next_is_free}
+use Rattle.ps_csv.proofs.ApplyLemmas.{next_ascends, next_is_free, stopped_at}
 use Rattle.ps_csv.proofs.apply.make_all.Goals as goal
 
 pub loop-cells-init : goal.loop-cells-init
@@ -38,6 +38,10 @@ returns-in-Err-clause-memory c =
           (applying_next _ _ _ _ _ _ _ c.in-Some.cells c.in-Some.ensures.steps.0 c.loop-cells.invariant.2)
           (full _ c.loop-cells.invariant.3))
     ]
+
+pub returns-in-Err-clause-stopped : goal.returns-in-Err-clause-stopped
+returns-in-Err-clause-stopped c =
+    stopped_at _ _ _ _ _ _ _ _ c.loop-cells.invariant.2 c.in-Err.ensures.kept c.count_of-applied.ensures
 
 pub loop-cells-preserved : goal.loop-cells-preserved
 loop-cells-preserved c =
