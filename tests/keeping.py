@@ -57,8 +57,12 @@ class KeepingTest(ProgramTest):
         return lines("err 20 device", f"{self.file} isn't kept any more: {said_of(reason)}")
 
     def damaged(self, number):
-        """What is said of a file whose digest line of this number isn't due there."""
-        return lines("err 14 delta", f"line {number} of {self.file}: it is not the digest of the lines before it")
+        """What is said of the file if its digest line of this number is the first wrong one."""
+        rows = self.file.read_bytes().splitlines(keepends=True)[:number - 1]
+        intact = max((place for place, row in enumerate(rows, 1) if kept.DIGEST_LINE.fullmatch(row)), default=0)
+        whole = f"Lines 1 to {intact} are whole" if intact else "No line is known to be whole"
+        what = f'it is not the digest of the lines before it. {whole}: see docs/USING.md, "A damaged file"'
+        return lines("err 14 delta", f"line {number} of {self.file}: {what}")
 
     def run_kept(self, given=b"", *words, **how):
         """How `run --keep` ends that is given these bytes."""

@@ -3,7 +3,9 @@ use Rattle.std.specs.Prelude.{◌≡◌, ◌⊎◌, ℕ, List, Option, ⊤}
 use Rattle.ps_grid.specs.declared.refusal.Refusal.TheVariants.{Device, Memory}
 use Rattle.ps_sheet.specs.Sheet.{IsSheet, SheetView}
 use Rattle.ps_delta.specs.Deltas.{Entries}
-use Rattle.ps_keep.specs.Digests.{IsClean, IsWrongDigest}
+use Rattle.ps_keep.specs.Digests.{IsClean}
+use Rattle.ps_keep.specs.Digested.{IsDamage}
+use Rattle.ps_keep.specs.declared.digested.Damage.{Damage}
 use Rattle.ps_keep.specs.Journals.{JournalView}
 use Rattle.ps_keep.specs.Lines.{whole_lines}
 use Rattle.ps_keep.specs.declared.file.FileCause.{FileCause}
@@ -53,17 +55,22 @@ TellsLoss fault =
 abbrev pub IsUnusable : ProgramFault → Type 0
 IsUnusable fault = (cause : FileCause) × TellsTrouble (troubles.Unusable cause) fault
 
--- the fault reports a digest line that isn't that of the lines before it, or that allocation failed
+-- the fault reports the first digest line of these bytes that isn't that of the lines before it, and the last one
+-- before that, or that allocation failed
+abbrev pub TellsDamageOf : List ℕ → ProgramFault → Type 0
+TellsDamageOf raw fault = (damage : Damage) × IsDamage (whole_lines raw) damage
+    × TellsTrouble (troubles.Damaged damage) fault
+
+-- .. of the bytes of some file
 abbrev pub TellsDamage : ProgramFault → Type 0
-TellsDamage fault = (raw : List ℕ) × (number : ℕ) × IsWrongDigest (whole_lines raw) number
-    × TellsTrouble (troubles.Damaged number) fault
+TellsDamage fault = (raw : List ℕ) × TellsDamageOf raw fault
 
 -- why a start of this replica refuses the bytes of a file: the first line that may not stand there, or the replica
 -- whose sheet it is
 abbrev pub IsTroubleOf : ℕ → List ℕ → KeptTrouble → Type 0
 IsTroubleOf replica bytes (troubles.Line number) = IsFaultOf replica bytes (keeps.Line number)
 IsTroubleOf replica bytes (troubles.Replica other) = IsFaultOf replica bytes (keeps.Replica other)
-IsTroubleOf replica bytes (troubles.Damaged number) = ⊥
+IsTroubleOf replica bytes (troubles.Damaged damage) = ⊥
 IsTroubleOf replica bytes troubles.Busy = ⊥
 IsTroubleOf replica bytes (troubles.Unusable cause) = ⊥
 IsTroubleOf replica bytes (troubles.Lost cause) = ⊥

@@ -4,7 +4,7 @@ ghost use Rattle.ps_kept.specs.Starts.{Reads};
 ghost use Rattle.ps_keep.specs.Digests.{IsClean};
 ghost use Rattle.ps_commands.specs.Kept.{IsFileRefusal, IsInFile, IsKeptSheet, IsMoved, IsUnusable, ReadsFile};
 ghost use Rattle.ps_commands.specs.Kept.{RefusesFile};
-ghost use Rattle.ps_commands.specs.Kept.{TellsDamage, TellsLoss, TellsTrouble};
+ghost use Rattle.ps_commands.specs.Kept.{TellsDamage, TellsDamageOf, TellsLoss, TellsTrouble};
 ghost use Rattle.ps_commands.specs.Status.{kept_status};
 ghost use Rattle.ps_commands.specs.declared.fault.ProgramFault.TheVariants.{Refused};
 
@@ -13,7 +13,7 @@ use crate::squash::squash_first;
 use ps_eval::Meter;
 use ps_grid::Refusal;
 use ps_keep::{
-    DigestFault, DigestedDevice, DigestedFile, FailureReason, FileCause, FileFault, Found,
+    Damage, DigestFault, DigestedDevice, DigestedFile, FailureReason, FileCause, FileFault, Found,
     FoundFile, KeptFile, LineNumbers,
 };
 use ps_kept::{KeepFault, SheetKeeper, open_kept};
@@ -44,8 +44,8 @@ pub enum KeptTrouble {
     /// The line with this number, counted from 1, isn't allowed where it stands. Line 1 has to name the replica, and
     /// each later line has to push a delta that adds something new.
     Line(u64),
-    /// The line with this number, counted from 1, is a digest line that doesn't match the lines before it.
-    Damaged(u64),
+    /// A digest line doesn't match the lines before it.
+    Damaged(Damage),
     /// The file has the sheet of another replica, which has this number.
     Replica(u8),
     /// Another program holds the file's lock.
@@ -92,12 +92,17 @@ impl fmt::Display for FileNotTaken {
                 let refusal = Refusal::Delta;
                 write!(f, "{refusal}\nline {number} of {path}")
             }
-            KeptTrouble::Damaged(number) => {
+            KeptTrouble::Damaged(Damage { wrong, intact }) => {
                 let refusal = Refusal::Delta;
                 write!(
                     f,
-                    "{refusal}\nline {number} of {path}: it is not the digest of the lines before it"
-                )
+                    "{refusal}\nline {wrong} of {path}: it is not the digest of the lines before it"
+                )?;
+                match intact {
+                    0 => write!(f, ". No line is known to be whole"),
+                    intact => write!(f, ". Lines 1 to {intact} are whole"),
+                }?;
+                f.write_str(": see docs/USING.md, \"A damaged file\"")
             }
             KeptTrouble::Replica(number) => {
                 let refusal = Refusal::Replica;
@@ -200,7 +205,7 @@ fn read_digested<F: Found + Drop>(
     found: F,
 ) -> Result<(DigestedFile<F>, LineNumbers), ProgramFault>
     ensures clean { IfOk result (λ f. IsClean f.0.raw f.0.clean) }
-    ensures refused { IfErr result (λ f. IsUnusable f ⊎ TellsDamage f) }
+    ensures refused { IfErr result (λ f. IsUnusable f ⊎ TellsDamageOf (F.bytes found) f) }
 {
     let fault = match DigestedFile::read(alloc, found) {
         Ok(read) => return Ok(read),
@@ -211,7 +216,7 @@ fn read_digested<F: Found + Drop>(
     };
     match fault {
         DigestFault::Memory => Err(ProgramFault::Refused(Refusal::Memory)),
-        DigestFault::Line(number) => Err(not_taken(alloc, path, KeptTrouble::Damaged(number))),
+        DigestFault::Line(damage) => Err(not_taken(alloc, path, KeptTrouble::Damaged(damage))),
     }
 }
 

@@ -1,5 +1,6 @@
 pub mod CoverLemmas
 pub mod CrashLemmas
+pub mod DamageLemmas
 pub mod DigestLemmas
 pub mod JournalLemmas
 pub mod LineLemmas

@@ -1,9 +1,11 @@
 -- A file with digest lines, as its callers see it, and what its parts hold.
-use Rattle.std.specs.Prelude.{◌≡◌, ◌≤◌, ◌<◌, ℕ, Bool, List, [], ◌++◌, length, take, false, ⊤}
+use Rattle.std.specs.Prelude.{◌≡◌, ◌≤◌, ◌<◌, ◌-◌, ℕ, Bool, List, [], ◌++◌, length, take, false, ⊤}
 use Rattle.md5.specs.Md5.{Holds}
 use Rattle.md5.specs.declared.Md5.{Md5}
-use Rattle.ps_keep.specs.Digests.{AreDigested, EndsInDigest, EndsLine, HaveNoDigests, IsClean, IsWrongDigest}
+use Rattle.ps_keep.specs.Digests.{AreDigested, EndsInDigest, EndsLine, HaveNoDigests, IsClean}
+use Rattle.ps_keep.specs.Digests.{IsLastDigest, IsWrongDigest}
 use Rattle.ps_keep.specs.Digests.{ReadsAfterCrashes, ReadsAs, others, since}
+use Rattle.ps_keep.specs.declared.digested.Damage.{Damage}
 use Rattle.ps_keep.specs.declared.digested.DigestFault.{DigestFault}
 use Rattle.ps_keep.specs.declared.digested.DigestFault.TheVariants as faults
 use Rattle.ps_keep.specs.Lines.{AreLines, IsLine, text, whole_lines}
@@ -64,7 +66,12 @@ pub record IsCovered (opened raw written : List ℕ) (has_failed : Bool) : Type 
   pub is : has_failed ≡ false → HaveNoDigests (whole_lines written) → length opened < length written
       → EndsLine written → EndsInDigest raw
 
+-- DAMAGE: the first wrong digest line among these lines, and the last one before it
+pub record IsDamage (lines : List (List ℕ)) (damage : Damage) : Type 0 where
+  pub wrong : IsWrongDigest lines damage.wrong
+  pub intact : IsLastDigest (take (damage.wrong - 1) lines) damage.intact
+
 -- why the digest lines among these lines aren't taken
 abbrev pub IsFault : List (List ℕ) → DigestFault → Type 0
 IsFault lines faults.Memory = ⊤
-IsFault lines (faults.Line number) = IsWrongDigest lines number
+IsFault lines (faults.Line damage) = IsDamage lines damage

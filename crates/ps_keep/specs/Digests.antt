@@ -1,5 +1,5 @@
 -- Digest lines of a file, by which a start sees damage.
-use Rattle.std.specs.Prelude.{◌≡◌, ◌≢◌, ◌&&◌, ℕ, ◌+◌, ◌/◌, ◌%◌, ◌^◌, ◌<◌, Bool, true, false, not, nat_eq, nat_lt}
+use Rattle.std.specs.Prelude.{◌≡◌, ◌≢◌, ◌⊎◌, ◌&&◌, ℕ, ◌+◌, ◌/◌, ◌%◌, ◌^◌, ◌<◌, Bool, true, false, not, nat_eq, nat_lt}
 use Rattle.std.specs.Prelude.{List, [], ◌∷◌, ◌++◌, length, take, filter, codes, if◌then◌else◌, ⊤}
 use Rattle.std.specs.List.{starts_with}
 use Rattle.md5.specs.Md5.{md5}
@@ -81,6 +81,16 @@ pub record IsWrongDigest (lines : List (List ℕ)) (number : ℕ) : Type 0 where
   pub digested : AreDigested [] before
   pub has_form : is_digest_line line ≡ true
   pub wrong : line ≢ digest_line (since [] before)
+
+-- the last digest line among these lines has this number, from 1 on; 0 where none stands
+pub record IsLastDigest (lines : List (List ℕ)) (number : ℕ) : Type 0 where
+  pub up_to : List (List ℕ)
+  pub after : List (List ℕ)
+  pub is : lines ≡ up_to ++ after
+  pub counts : number ≡ length up_to
+  pub ends : (up_to ≡ [])
+      ⊎ ((front : List (List ℕ)) × (line : List ℕ) × (up_to ≡ front ++ line ∷ []) × (is_digest_line line ≡ true))
+  pub none : HaveNoDigests after
 
 -- READS AS: a file's digest lines are right, and its other lines are those of these bytes
 pub record ReadsAs (raw bytes : List ℕ) : Type 0 where

@@ -22,9 +22,18 @@ use std::marker::Model;
 pub enum DigestFault {
     /// Out of memory.
     Memory,
-    /// A digest line is wrong: it isn't the digest of the bytes before it. The number is that of the first wrong one
-    /// among all lines of the file, from 1.
-    Line(u64),
+    /// A digest line is wrong: it isn't the digest of the bytes before it.
+    Line(Damage),
+}
+
+/// Where a file with a wrong digest line is damaged. Both numbers are those of lines among all lines of the file,
+/// counted from 1.
+#[derive(Clone, Copy, Debug, PartialEq, Eq)]
+pub struct Damage {
+    /// The number of the first wrong digest line.
+    pub wrong: u64,
+    /// The number of the last digest line before that one; it is right, as are all before it. 0 if there is none.
+    pub intact: u64,
 }
 
 impl From<AllocError> for DigestFault {
@@ -106,6 +115,7 @@ fn read_lines(alloc: Global, bytes: &[u8]) -> Result<CleanLines, DigestFault>
     let mut hashed = 0;
     let mut rest = bytes;
     let mut number = 0;
+    let mut intact = 0;
     let mut others = 0;
     'lines: while let Some((line, after)) = first_line(rest) {
         number += 1;
@@ -114,8 +124,12 @@ fn read_lines(alloc: Global, bytes: &[u8]) -> Result<CleanLines, DigestFault>
             hashed = clean.len();
             let expected = next_digest_line(&mut hasher);
             if line != &expected[..expected.len() - 1] {
-                return Err(DigestFault::Line(number));
+                return Err(DigestFault::Line(Damage {
+                    wrong: number,
+                    intact,
+                }));
             }
+            intact = number;
             before.reserve(1)?;
             before.push_reserved(others);
         } else {
@@ -168,7 +182,8 @@ impl<F: Found + Drop> DigestedFile<F> {
     ///
     /// # Errors
     ///
-    /// - `Line`: the number of the first digest line that isn't the digest of the bytes before it.
+    /// - `Line`: a digest line isn't the digest of the bytes before it. The fault has the number of the first such
+    ///   line, and that of the digest line before it.
     /// - `Memory`: out of memory.
     ///
     /// Both errors come with `found`, unchanged.

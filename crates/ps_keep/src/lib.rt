@@ -14,11 +14,11 @@
 //! A [`DigestedFile`] is a found file that has digest lines, by which a start sees damage. A digest line is the word
 //! `replica`, a space and 16 hex digits. The digits are the first 8 bytes of the MD5 of all bytes from the previous
 //! digest line on, this line included, or from the file's beginning. A start calls [`DigestedFile::read`], which checks
-//! each digest line, and fails with the number of the first wrong one. If all are right, the returned file shows only
-//! its other lines. Its device appends a digest line after each write that ends a line. So a journal knows nothing of
-//! digests, and each sync of a journal with new lines writes a digest line. A file without digest lines gets them from
-//! the next sync on. The lines after the last digest line, left by a crash, aren't checked. MD5 shows accidents, not
-//! intent.
+//! each digest line, and fails with the number of the first wrong one and that of the last right one before it. If all
+//! are right, the returned file shows only its other lines. Its device appends a digest line after each write that ends
+//! a line. So a journal knows nothing of digests, and each sync of a journal with new lines writes a digest line. A
+//! file without digest lines gets them from the next sync on. The lines after the last digest line, left by a crash,
+//! aren't checked. MD5 shows accidents, not intent.
 //!
 //! Only [`open`] cuts a found file. So a caller that reads a file and then refuses it leaves the file as it was.
 //!
@@ -50,7 +50,7 @@ mod trace;
 
 pub use device::{Device, Found};
 pub use digested::{
-    DigestFault, DigestedDevice, DigestedFile, LineNumbers, digested_files_survive,
+    Damage, DigestFault, DigestedDevice, DigestedFile, LineNumbers, digested_files_survive,
 };
 pub use file::{FileCause, FileFault, FoundFile, KeptFile};
 pub use journal::Journal;

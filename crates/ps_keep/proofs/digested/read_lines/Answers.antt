@@ -4,6 +4,7 @@ use Rattle.std.proofs.lemmas.List.{length-take-le}
 use Rattle.md5.specs.Md5.{Holds}
 use Rattle.ps_keep.specs.Digests.{digest_line}
 use Rattle.ps_keep.specs.Lines.{whole_lines}
+use Rattle.ps_keep.proofs.DamageLemmas.{damaged_after, intact_digest, intact_nothing, intact_other}
 use Rattle.ps_keep.proofs.DigestLemmas.{compared_other, compared_same}
 use Rattle.ps_keep.proofs.ReadLemmas.{read_all, read_digest, read_no_line, read_nothing, read_numbers, read_other}
 use Rattle.ps_keep.proofs.ReadLemmas.{read_wrong}
@@ -17,14 +18,15 @@ copied start same hasher held = subst (λ (l : List ℕ). Holds hasher (held ++ 
 
 pub returns-then-ne-clause-fault : goal.returns-then-ne-clause-fault
 returns-then-ne-clause-fault c =
-    read_wrong c.args.bytes.now c.lines.rest.now c.in-Some.after.now c.lines.clean.items c.in-Some.line.now
+    damaged_after c.args.bytes.now c.lines.rest.now c.lines.number c.lines.intact c.lines.invariant.intact_so_far
+    (read_wrong c.args.bytes.now c.lines.rest.now c.in-Some.after.now c.lines.clean.items c.in-Some.line.now
     c.lines.before.items c.lines.hasher c.lines.hashed c.lines.number c.lines.others c.lines.invariant.so_far
     c.in-Some.ensures.line (sym c.is_digest_line.ensures ∙ c.if-is_digest_line.true)
     (λ held holds. compared_other c.ne.result c.in-Some.line.now c.next_digest_line-expected.result
     (held ++ drop c.lines.hashed c.lines.clean.items) c.ne.ensures c.if-ne.true
     (c.next_digest_line-expected.ensures.line _ (copied c.lines.hashed c.as_slice.ensures.value
     c.hash_from.new.hasher held
-    (c.hash_from.ensures.hashed held holds))))
+    (c.hash_from.ensures.hashed held holds)))))
 
 pub lines-preserved-in_ok-reserve : goal.lines-preserved-in_ok-reserve
 lines-preserved-in_ok-reserve c = record {
@@ -44,6 +46,9 @@ lines-preserved-in_ok-reserve c = record {
             same)) c.next_digest_line-expected.ensures.chain,
       )) (c.push_reserved.ensures.items ∙ ap (λ (l : List ℕ). l ++ c.lines.others ∷ []) c.in_ok-reserve.ensures.items);
   fewer = let f = c.lines.invariant.fewer in omega arith;
+  intact_so_far = intact_digest c.args.bytes.now c.lines.rest.now c.in-Some.after.now c.in-Some.line.now
+      c.lines.number c.lines.intact c.lines.invariant.intact_so_far c.in-Some.ensures.line
+      (sym c.is_digest_line.ensures ∙ c.if-is_digest_line.true);
 }
 
 pub lines-preserved : goal.lines-preserved
@@ -53,6 +58,9 @@ lines-preserved c = record {
       c.lines.number c.lines.others c.lines.invariant.so_far c.in-Some.ensures.line c.in-Some.ensures.shorter
       (sym c.is_digest_line.ensures ∙ c.if-is_digest_line.false) c.in_ok-append_line.ensures.added;
   fewer = let f = c.lines.invariant.fewer in omega arith;
+  intact_so_far = intact_other c.args.bytes.now c.lines.rest.now c.in-Some.after.now c.in-Some.line.now
+      c.lines.number c.lines.intact c.lines.invariant.intact_so_far c.in-Some.ensures.line
+      (sym c.is_digest_line.ensures ∙ c.if-is_digest_line.false);
 }
 
 pub returns-clause-read : goal.returns-clause-read
@@ -85,6 +93,7 @@ lines-init c = record {
       (read_nothing c.args.bytes.now c.new-hasher.result
       c.new-hasher.ensures);
   fewer = omega arith;
+  intact_so_far = intact_nothing c.args.bytes.now;
 }
 
 pub slice_bounds-ne-length : goal.slice_bounds-ne-length
