@@ -9,3 +9,4 @@ mod SeatChanges
 pub mod SeatLemmas
 pub mod SeatRuns
 mod TableLemmas
+mod Waiting

@@ -1,6 +1,7 @@
 -- What holds of the data that a desk's lock guards.
-use Rattle.std.specs.Prelude.{◌≡◌, ℕ, List, [], length}
+use Rattle.std.specs.Prelude.{◌≡◌, ℕ, List, [], ◌++◌, All, Option, Some, None, length}
 use Rattle.ps_delta.specs.Deltas.{Entries}
+use Rattle.ps_face.specs.declared.patch.Note.{Note}
 use Rattle.ps_face.specs.Legal.{history_of}
 use Rattle.ps_face.specs.Published.{Published}
 
@@ -13,3 +14,14 @@ pub record IsUnderLock (r : ℕ) (h : List Entries) (own : ℕ) (deltas : List E
   pub history : deltas ≡ history_of h copies.list
   pub none : copies.pending ≡ []
   pub total : amount ≡ length copies.list
+
+-- calls of this session slot made all these patches. Without a slot, there are none
+abbrev pub AreMadeBy : Option ℕ → List Note → Type 0
+AreMadeBy (Some seat) patches = All (λ p. p.owner ≡ seat) patches
+AreMadeBy None patches = patches ≡ []
+
+-- WAITS: the list begins with what readers are shown. This session slot alone made the changes that wait to be shown
+pub record Waits (slot : Option ℕ) (copies : Published) : Type 0 where
+  pub waiting : List Note
+  pub is : copies.list ≡ copies.shown ++ waiting
+  pub made : AreMadeBy slot waiting

@@ -1,6 +1,6 @@
 //! Publishes a staged change and commits it, or cancels it.
 
-ghost use Rattle.std.specs.Prelude.{◌≡◌, ◌+◌, ◌<◌, ◌^◌, ◌++◌, ◌∷◌, [], true, None, if◌then◌else◌, is_some};
+ghost use Rattle.std.specs.Prelude.{◌≡◌, ◌⊎◌, ◌+◌, ◌<◌, ◌^◌, ◌++◌, ◌∷◌, [], true, Some, None, if◌then◌else◌, is_some};
 ghost use Rattle.std.specs.Prelude.{IfOk, IfErr, OnOk, OnErr};
 ghost use mathlib.Core.List.{IsPrefix};
 ghost use Rattle.ps_grid.specs.declared.refusal.Refusal.TheVariants.{Memory};
@@ -11,7 +11,7 @@ ghost use Rattle.ps_cells.specs.ChangedCells.{IsChanged};
 ghost use Rattle.ps_sheet.specs.Prepared.{shown_before};
 ghost use Rattle.ps_sheet.specs.Staging.{IsWorkedOut};
 ghost use Rattle.ps_face.specs.Legal.{Follows, history_of};
-ghost use Rattle.ps_desk.specs.UnderLock.{IsUnderLock};
+ghost use Rattle.ps_desk.specs.UnderLock.{IsUnderLock, Waits};
 ghost use Rattle.ps_desk.specs.Patches.{IsNoted, KeepsChange, change_in, found_in, note_of, staged_in};
 ghost use Rattle.ps_desk.specs.Receipts.{IsReceipt};
 ghost use Rattle.ps_desk.specs.declared.showing.Showing.TheVariants.{AtOnce};
@@ -36,6 +36,7 @@ pub(crate) fn make_way<L: DeskName, W: Wait + Drop>(copies: &mut FaceWriter<L, W
     ensures list { copies.new.list ≡ copies.old.list }
     ensures pending { copies.new.pending ≡ copies.old.pending }
     ensures shown { showing ≡ AtOnce → copies.new.shown ≡ copies.new.list }
+    ensures steady { (copies.new.shown ≡ copies.old.shown) ⊎ (copies.new.shown ≡ copies.new.list) }
 {
     match showing {
         Showing::AtOnce => copies.show(),
@@ -88,6 +89,7 @@ pub(crate) fn finish<L: DeskName, W: Wait + Drop, V: Wait>(
     ensures later { IsPrefix pass.old.list pass.new.list }
     ensures all { pass.new.list ≡ copies.new.list }
     ensures shown { showing ≡ AtOnce → copies.new.shown ≡ copies.new.list }
+    ensures waits { Waits (Some pass.old.seat) copies.old → Waits (Some pass.old.seat) copies.new }
     ensures receipt { IfOk result (λ r. IsReceipt (λ s d. (s ≡ joined_history sheet.old.history)
         × (d ≡ (change_in sheet.old).delta)) L.opening pass.old.list pass.new.list pass.old.seat
         (record { number = r.number; delta = (change_in sheet.old).delta; fresh = r.fresh })) }
@@ -137,6 +139,7 @@ fn append<L: DeskName, W: Wait + Drop, V: Wait>(
         book.new.total }
     ensures all { pass.new.list ≡ copies.new.list }
     ensures shown { showing ≡ AtOnce → copies.new.shown ≡ copies.new.list }
+    ensures waits { Waits (Some pass.old.seat) copies.old → Waits (Some pass.old.seat) copies.new }
     ensures published { OnOk result (IsNoted (change_in sheet.old) pass.old.seat pass.old.list pass.new.list) }
     ensures told { IfOk result (λ number. number ≡ (change_in sheet.old).report.version) }
     ensures memory { IfErr result (λ e. e ≡ Memory) }
@@ -200,6 +203,7 @@ fn tell<L: DeskName, W: Wait + Drop>(
     ensures number { IfOk result (λ n. n ≡ (change_in sheet.now).report.version) }
     ensures bound { IfOk result (λ n. n < 2 ^ 64) }
     ensures shown { OnOk result (showing ≡ AtOnce → copies.new.shown ≡ copies.new.list) }
+    ensures steady { OnOk result ((copies.new.shown ≡ copies.old.shown) ⊎ (copies.new.shown ≡ copies.new.list)) }
     ensures none { OnOk result (copies.new.pending ≡ []) }
     ensures kept { OnErr result (copies.new ≡ copies.old) }
     ensures memory { IfErr result (λ e. e ≡ Memory) }
@@ -222,6 +226,7 @@ fn publish<L: DeskName, W: Wait + Drop>(
     requires legal { Follows (history_of L.opening copies.old.list) patch }
     ensures list { OnOk result (copies.new.list ≡ copies.old.list ++ patch.entry ∷ []) }
     ensures shown { OnOk result (showing ≡ AtOnce → copies.new.shown ≡ copies.new.list) }
+    ensures steady { OnOk result ((copies.new.shown ≡ copies.old.shown) ⊎ (copies.new.shown ≡ copies.new.list)) }
     ensures none { OnOk result (copies.new.pending ≡ []) }
     ensures kept { OnErr result (copies.new ≡ copies.old) }
     ensures memory { IfErr result (λ e. e ≡ Memory) }

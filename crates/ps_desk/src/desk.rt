@@ -111,7 +111,7 @@ impl<L: DeskName, W: Wait + Drop> Desk<L, W> {
     ///
     /// The change is shown at once, with all changes that wait to be shown. There is one exception: at a
     /// [`crate::Seat`] with a keeper, a change that directly follows another one may wait. It waits until the session
-    /// reads or sends its replies, at the latest.
+    /// reads or sends its replies, or another session makes a change, at the latest.
     ///
     /// Refused for the reasons of [`ps_sheet::Sheet::edit`], over the whole history. An edit that nothing else refuses
     /// may still fail when out of memory. The pass has then seen the whole published list, even if the edit fails. The
@@ -232,9 +232,10 @@ impl<L: DeskName, W: Wait + Drop> Desk<L, W> {
         let showing = pass.next_showing();
         let mut state = self.state.lock(wait);
         let made = state.make(rt, wait, alloc, pass, change, meter, showing);
+        let shows_all = state.shows_all();
         drop(state);
         pass.has_changed();
-        self.wake(!showing.hides());
+        self.wake(shows_all);
         made
     }
 

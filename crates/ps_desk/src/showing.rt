@@ -1,5 +1,8 @@
 //! When a change is shown to readers of the published copies.
 
+ghost use Rattle.std.specs.Prelude.{◌≡◌, ◌⊎◌, Some, None};
+ghost use Rattle.ps_desk.specs.declared.showing.Showing.TheVariants.{AtOnce};
+
 /// The moment at which a change is shown to readers.
 #[derive(Clone, Copy)]
 pub(crate) enum Showing {
@@ -15,6 +18,30 @@ impl Showing {
         match self {
             Showing::AtOnce => false,
             Showing::Later => true,
+        }
+    }
+
+    /// Returns when a change of the session slot `seat` is shown while changes of the slot `waiting` wait. Changes of
+    /// two slots never wait together.
+    #[inline(always)]
+    pub(crate) fn beside(self, waiting: Option<u64>, seat: u64) -> Showing
+        ensures once { self ≡ AtOnce → result ≡ AtOnce }
+        ensures later { (result ≡ AtOnce) ⊎ ((waiting ≡ None) ⊎ (waiting ≡ Some seat)) }
+    {
+        match waiting {
+            Some(other) if other != seat => Showing::AtOnce,
+            _ => self,
+        }
+    }
+
+    /// Returns the session slot whose changes may wait after a change of the slot `seat` that is shown so.
+    #[inline(always)]
+    pub(crate) fn waiting(self, seat: u64) -> Option<u64>
+        ensures { ((result ≡ None) × (self ≡ AtOnce)) ⊎ (result ≡ Some seat) }
+    {
+        match self {
+            Showing::AtOnce => None,
+            Showing::Later => Some(seat),
         }
     }
 }

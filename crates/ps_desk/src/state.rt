@@ -1,6 +1,6 @@
 //! The state that a desk's lock guards.
 
-ghost use Rattle.std.specs.Prelude.{◌≡◌, ◌⊎◌, ◌↔◌, ◌<◌, ◌^◌, [], drop, length, take, Err, IfOk, IfErr, OnErr};
+ghost use Rattle.std.specs.Prelude.{◌≡◌, ◌⊎◌, ◌↔◌, ◌<◌, ◌^◌, [], true, drop, length, take, Err, IfOk, IfErr, OnErr};
 ghost use mathlib.Core.List.{IsPrefix};
 ghost use Rattle.ps_grid.specs.declared.refusal.Refusal.TheVariants.{Memory, Version};
 ghost use Rattle.ps_delta.specs.Deltas.{joined_history};
@@ -44,6 +44,8 @@ pub(crate) struct DeskState<L: DeskName, W: Wait + Drop> {
     sheet: Staging,
     copies: FaceWriter<L, W>,
     book: Book<L>,
+    /// the session slot whose changes may wait to be shown; `None` if all are shown
+    waiting: Option<u64>,
 }
 
 impl<L: DeskName, W: Wait + Drop> Model for DeskState<L, W> {
@@ -51,8 +53,7 @@ impl<L: DeskName, W: Wait + Drop> Model for DeskState<L, W> {
     ghost use Rattle.std.specs.Coded.{codes};
     ghost use Rattle.ps_face.specs.contracts.patch.Note as note;
     ghost use Rattle.ps_face.specs.Published.{Published};
-    ghost use mathlib.Core.List.{IsPrefix};
-    ghost use Rattle.ps_desk.specs.UnderLock.{IsUnderLock};
+    ghost use Rattle.ps_desk.specs.UnderLock.{IsUnderLock, Waits};
 
     ghost Value = { Published };
 
@@ -62,7 +63,7 @@ impl<L: DeskName, W: Wait + Drop> Model for DeskState<L, W> {
 
     ghost invariant = { λ d. (d.sheet.staged ≡ None)
         × IsUnderLock L.replica L.opening d.sheet.replica d.sheet.history d.copies d.book.total
-        × IsPrefix d.copies.shown d.copies.list };
+        × Waits d.waiting d.copies };
 }
 
 impl<L: DeskName, W: Wait + Drop> DeskState<L, W> {
@@ -74,12 +75,11 @@ impl<L: DeskName, W: Wait + Drop> DeskState<L, W> {
         requires book { book.total ≡ 0 }
         ensures { result ≡ record { list = []; shown = []; pending = [] } }
     {
-        // for the fact that what is shown is a beginning of the list
-        let _ = copies.front();
         DeskState {
             sheet: Staging::new(sheet),
             copies,
             book,
+            waiting: None,
         }
     }
 
@@ -107,9 +107,17 @@ impl<L: DeskName, W: Wait + Drop> DeskState<L, W> {
         ensures shown { result ≡ self.new.list }
     {
         self.copies.show();
+        self.waiting = None;
         // for the fact that the list is legal
         let _ = self.copies.front();
         ShownPosition::new(&self.copies.shown())
+    }
+
+    /// Returns whether readers are shown the whole published list. The call may miss that they are.
+    pub(crate) fn shows_all(&self) -> bool
+        ensures shown { result ≡ true → self.now.shown ≡ self.now.list }
+    {
+        self.waiting.is_none()
     }
 
     /// Shows the whole published list to readers, and marks it as seen by the pass.
@@ -137,13 +145,15 @@ impl<L: DeskName, W: Wait + Drop> DeskState<L, W> {
             sheet,
             copies: _,
             mut book,
+            waiting: _,
         } = self;
         book.audit(all);
         sheet.into_sheet()
     }
 
     /// Makes a change for the session of a pass, and returns its receipt. The pass has then seen the whole published
-    /// list. If the change is shown at once, all waiting changes are shown, too.
+    /// list. If the change is shown at once, all waiting changes are shown, too. If changes of another slot wait, the
+    /// change is shown at once in any case.
     ///
     /// Refused as the sheet refuses the change. A change that adds something new may also fail when out of memory.
     /// After a refusal the published list is as before.
@@ -170,7 +180,10 @@ impl<L: DeskName, W: Wait + Drop> DeskState<L, W> {
             sheet,
             copies,
             book,
+            waiting,
         } = self;
+        let showing = showing.beside(*waiting, pass.seat());
+        *waiting = showing.waiting(pass.seat());
         make_way(copies, showing);
         pass.catch_up(wait, copies.front());
         let _report = sheet.stage(rt, &Open, alloc, change, meter)?;

@@ -1,12 +1,18 @@
+use denote.Builtin.{u64}
 use denote.Exit.{yes}
-use denote.Param.Send.{IsSend}
+use denote.Hole.{as_row}
+use denote.Param.Send.{IsSend, sendable}
 use denote.Param.SendFields.{declared_send, as_row_send}
 use denote.Struct.Declared as S
+use Rattle.std.specs.contracts.option.Option as Option
 use Rattle.std.specs.contracts.sync.ledger.Book as book
 use Rattle.ps_sheet.specs.contracts.staging.Staging as staging
 use Rattle.ps_face.specs.contracts.writer.FaceWriter as writer
 use Rattle.ps_desk.specs.contracts.state.DeskState.TheInside as inside
 use Rattle.ps_desk.proofs.threads.state_is_send.Goals as goal
+
+waiting_send : IsSend (as_row (Option.the_field u64))
+waiting_send = search sendable depth 20
 
 -- the whole may go to another thread, since each of its parts may
 pub returns : goal.returns
@@ -21,7 +27,7 @@ returns g c =
         (
           as_row_send (book.the_field g.row.L g.L.Ledger)
               (record { owned = c.is_send.ensures.owned; leaving = λ k. c.is_send.ensures.leaving yes }),
-          tt,
+          (waiting_send, tt),
         ),
       ),
     ) in

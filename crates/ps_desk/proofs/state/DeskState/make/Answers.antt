@@ -10,6 +10,7 @@ use Rattle.ps_face.specs.declared.patch.Note.{Note}
 use Rattle.ps_desk.specs.Patches.{change_in, staged_in}
 use Rattle.ps_desk.proofs.Locked.{same_locked}
 use Rattle.ps_desk.proofs.Noted.{at_staged, is_there}
+use Rattle.ps_desk.proofs.Waiting.{waits_after}
 use Rattle.ps_desk.specs.Passes.{PassView}
 use Rattle.ps_desk.specs.Receipts.{Took, Unmade}
 use Rattle.ps_desk.proofs.Receipted.{caught_later, caught_seat, made_change, took_caught, took_more, unpublished}
@@ -135,3 +136,29 @@ returns-in_err-standing-clause-unmade g c =
     (subst (λ (z : ℕ × List Entries). IsDeltaOf z.0 (joined_history z.1) c.args.change (staged_in y).delta)
     (λ i. (c.self.invariant.1.replica i, sym c.in_ok-_report.ensures.staged.history i)) made)
     c.in_err-standing.ensures.memory c.in_err-standing.ensures.asked)
+
+pub invariant_of-self-in_err-standing : goal.invariant_of-self-in_err-standing
+invariant_of-self-in_err-standing g c =
+    let finished = c.finish-done.ensures in
+    let same : c.catch_up.new.self.seat ≡ c.args.pass.now.seat = ap (λ (q : PassView). q.seat) c.catch_up.ensures.pass in (
+      finished.idle,
+      finished.under_lock,
+      waits_after c.self.inside.waiting c.waiting.result c.seat.result c.beside-showing.result c.self.inside.copies
+          c.make_way.new.copies c.finish-done.new.copies c.make_way.ensures.list c.make_way.ensures.shown
+          c.make_way.ensures.steady c.beside-showing.ensures.later c.self.invariant.2
+          (λ w. rw (c.seat.ensures, sym same) (finished.waits (rw (same, sym c.seat.ensures) w)))
+          (rw (c.seat.ensures, sym c.seat-2.ensures) c.waiting.ensures) finished.shown,
+    )
+
+pub invariant_of-self-2 : goal.invariant_of-self-2
+invariant_of-self-2 g c =
+    let finished = c.finish-done.ensures in
+    let same : c.catch_up.new.self.seat ≡ c.args.pass.now.seat = ap (λ (q : PassView). q.seat) c.catch_up.ensures.pass in (
+      finished.idle,
+      finished.under_lock,
+      waits_after c.self.inside.waiting c.waiting.result c.seat.result c.beside-showing.result c.self.inside.copies
+          c.make_way.new.copies c.finish-done.new.copies c.make_way.ensures.list c.make_way.ensures.shown
+          c.make_way.ensures.steady c.beside-showing.ensures.later c.self.invariant.2
+          (λ w. rw (c.seat.ensures, sym same) (finished.waits (rw (same, sym c.seat.ensures) w)))
+          (rw (c.seat.ensures, sym c.seat-2.ensures) c.waiting.ensures) finished.shown,
+    )
