@@ -2,6 +2,7 @@
 `--check` says of them."""
 import contextlib
 import os
+import re
 import select
 import signal
 import socket
@@ -9,6 +10,7 @@ import struct
 import subprocess
 import threading
 import time
+from pathlib import Path
 
 import preloaded
 from preloaded import PROGRAM
@@ -658,6 +660,20 @@ class Replicas(ProgramTest):
                 self.assert_goes_over(first, "C1", number, second)
                 self.assert_goes_over(second, "C1", -number, first)
             self.assertEqual(versions(first, second), [f"version {4 * rounds}"] * 2)
+            self.assertEqual(join.stopped(), STOPPED)
+
+    def test_it_sleeps_while_nothing_changes(self):
+        with serving(None) as first, serving(None, "--replica", "2") as second, \
+                joining(first.port, second.port) as join:
+            self.assertEqual(join.told(), join.joined)
+            status = Path(f"/proc/{join.session.pid}/status")
+
+            def wakes():
+                return int(re.search(r"(?m)^voluntary_ctxt_switches:\s*(\d+)$", status.read_text())[1])
+
+            before = wakes()
+            time.sleep(2)
+            self.assertLess(wakes() - before, 5)
             self.assertEqual(join.stopped(), STOPPED)
 
     def test_changes_that_come_at_once_at_both_ends(self):

@@ -89,11 +89,11 @@ pub fn join_once_on<R: Net<Stream = TcpStream>, K: Sink>(
 /// Joins the peers of two streams until one of them fails, refuses or closes, and returns which one and how.
 ///
 /// Fails only out of memory, before anything was asked.
-fn join_streams<R: Clock, W: Write + Drop, I: Ledger, O: Ledger, J: Ledger, P: Ledger>(
+fn join_streams<W: Write + Drop, I: Ledger, O: Ledger, J: Ledger, P: Ledger>(
     alloc: Global,
     first: PeerStream<'_>,
     second: PeerStream<'_>,
-    lookout: &mut Lookout<'_, R, W>,
+    lookout: &mut Lookout<'_, W>,
 ) -> Result<JoinFault, ProgramFault>
     requires first_input { IsBlankOf first.input I.name I.parts }
     requires first_output { IsBlankOf first.output O.name O.parts }
@@ -125,8 +125,8 @@ fn join_anew<R: Net<Stream = TcpStream> + Clock, W: Write + Drop>(
 }
 
 /// Joins the replicas of two connections until one of them is lost, and returns that one. Fails only out of memory.
-fn join_ends<'a, R: Clock, W: Write + Drop>(
-    rt: &'a R,
+fn join_ends<'a, R: Net, W: Write + Drop>(
+    rt: &R,
     alloc: Global,
     ends: &'a Ends<'a>,
     progress: &'a mut Progress<W>,
@@ -134,8 +134,8 @@ fn join_ends<'a, R: Clock, W: Write + Drop>(
     ensures lost { IfOk result (λ lost. (lost.port ≡ ends.now.from.port) ⊎ (lost.port ≡ ends.now.to.port)) }
     ensures memory { IfErr result (λ f. f ≡ Refused Refusal.Memory) }
 {
-    let mut lookout = Lookout::new(&*rt, &*ends, progress);
-    let fault = join_streams::<R, W, Brand, Brand, Brand, Brand>(
+    let mut lookout = Lookout::new(rt, alloc, &*ends, progress);
+    let fault = join_streams::<W, Brand, Brand, Brand, Brand>(
         alloc,
         PeerStream::new(&ends.from),
         PeerStream::new(&ends.to),

@@ -1,38 +1,39 @@
 //! Which of two connections has bytes first.
 
 use crate::ends::Ends;
+use crate::poller::Poller;
 use crate::progress::Progress;
-use ps_desk::Presence;
 use ps_join::{Attention, End};
+use std::alloc::Global;
 use std::io::Write;
-use std::thread::sleep;
-use std::time::{Clock, Duration};
+use std::net::Net;
+use std::os::fd::AsRawFd;
 
-/// How many times both connections are looked at: for 30 seconds.
-const LOOKS: u64 = 3_000;
-
-/// How many milliseconds it takes until they are looked at again.
-const LOOK_PAUSE: u64 = 10;
-
-/// Looks at two connections in turn, to see which one has bytes first.
+/// Sees which of two connections has bytes first.
 #[derive(Drop)]
-pub(crate) struct Lookout<'a, R, W: Write + Drop> {
-    rt: &'a R,
+pub(crate) struct Lookout<'a, W: Write + Drop> {
+    /// `None` if the system or the memory doesn't allow one
+    poller: Option<Poller>,
     ends: &'a Ends<'a>,
     progress: &'a mut Progress<W>,
     /// whether both were joined over these connections
     is_joined: bool,
 }
 
-impl<'a, R, W: Write + Drop> Lookout<'a, R, W> {
+impl<'a, W: Write + Drop> Lookout<'a, W> {
     /// Returns a lookout at these connections, over which nothing was joined yet.
-    pub(crate) fn new(
-        rt: &'a R,
+    pub(crate) fn new<R: Net>(
+        rt: &R,
+        alloc: Global,
         ends: &'a Ends<'a>,
         progress: &'a mut Progress<W>,
-    ) -> Lookout<'a, R, W> {
+    ) -> Lookout<'a, W> {
+        let mut poller = Poller::open(rt, alloc, ends.from.stream.as_raw_fd());
+        if let Some(poller) = &mut poller {
+            poller.watch(&ends.to.stream);
+        }
         Lookout {
-            rt,
+            poller,
             ends,
             progress,
             is_joined: false,
@@ -40,8 +41,9 @@ impl<'a, R, W: Write + Drop> Lookout<'a, R, W> {
     }
 }
 
-impl<R: Clock, W: Write + Drop> Attention for Lookout<'_, R, W> {
-    /// Returns the end that has bytes, or whose connection ended. After 30 seconds without either it is the first one.
+impl<W: Write + Drop> Attention for Lookout<'_, W> {
+    /// Returns the end that has bytes, or whose connection ended. After 30 seconds without either it is the second one.
+    /// Without a poller it is always the first one, whose changes are then the only ones that end a wait.
     ///
     /// The first call follows a whole exchange, and reports it.
     fn next(&mut self) -> End {
@@ -49,15 +51,10 @@ impl<R: Clock, W: Write + Drop> Attention for Lookout<'_, R, W> {
             self.is_joined = true;
             self.progress.joined(self.ends);
         }
-        for _ in 0..LOOKS {
-            if !Presence::of(&self.ends.from.stream).is_waiting() {
-                return End::From;
-            }
-            if !Presence::of(&self.ends.to.stream).is_waiting() {
-                return End::To;
-            }
-            sleep(self.rt, Duration::from_millis(LOOK_PAUSE));
-        }
-        End::From
+        let is_first = match &mut self.poller {
+            Some(poller) => poller.is_input_first(),
+            None => true,
+        };
+        if is_first { End::From } else { End::To }
     }
 }
