@@ -2,7 +2,9 @@
 
 What the lines hold together, and the text of each line, comes from the plain model of `hunt/deltas.py`.
 """
+import contextlib
 import errno
+import functools
 import os
 import random
 import resource
@@ -12,7 +14,9 @@ import subprocess
 import time
 
 import peers
+import preloaded
 from hunt.deltas import State, delta_line, joined_deltas, read_delta
+from preloaded import PROGRAM
 from program import DEVICE_FAILED, LIMIT, Ended, ProgramTest, lines, run, started, unusable
 from sizes import COLUMNS, LONGEST_DELTA, LONGEST_LINE, name, pushes
 
@@ -530,6 +534,78 @@ class InPlace(ProgramTest):
         self.assertEqual(self.squash(preexec_fn=limit), Ended(1, b"", unusable(self.file, errno.EFBIG)))
         self.assertEqual(self.file.read_bytes(), content)
         self.assert_alone()
+
+    @functools.cached_property
+    def library(self):
+        """The library of `syncs.c`."""
+        return preloaded.build("syncs.c", self.folder() / "syncs.so")
+
+    @contextlib.contextmanager
+    def noting(self, fails=0):
+        """How a program is started whose sync of this number fails, and what it has noted: its syncs and renames."""
+        with open(os.memfd_create("notes"), "r+b") as notes:
+            told = {"SYNCS_NOTES": str(notes.fileno()), "SYNCS_FAIL": str(fails)}
+            how = {"program": PROGRAM, "env": preloaded.before(self.library, **told), "pass_fds": [notes.fileno()]}
+            yield how, lambda: os.pread(notes.fileno(), 4_096, 0).decode().splitlines()
+
+    def test_the_new_file_is_synced_before_its_rename_and_the_folder_after_it(self):
+        """Each once, the file with all its bytes and rights. Before both comes the sync of a folder at any start."""
+        self.keep(lines(*EDITS))
+        content = self.file.read_bytes()
+        small = run("squash", given=content).output
+        for target in (self.file, self.folder() / "other"):
+            with self.subTest(target=target.name), self.noting() as (how, noted):
+                if target != self.file:
+                    self.file.unlink()
+                    self.file.symlink_to(target)
+                target.write_bytes(content)
+                target.chmod(0o640)
+                self.assertEqual(self.squash(**how), self.told(len(EDITS), 1))
+                self.assertEqual(target.read_bytes(), small)
+                new = target.stat().st_ino
+                self.assertEqual(noted(), [
+                    f"folder {self.place.stat().st_ino}", f"file {new} {len(small)} 640", f"rename {new}",
+                    f"folder {target.parent.stat().st_ino}",
+                ])
+
+    def test_a_sync_that_fails(self):
+        """Before the rename the old file stays, after it the new one is there. It is reported either way."""
+        self.keep(lines(*EDITS))
+        content = self.file.read_bytes()
+        small, calls = run("squash", given=content).output, ["folder", "file", "rename", "folder"]
+        for fails, made, stands in ((1, 1, content), (2, 2, content), (3, 4, small)):
+            with self.subTest(fails=fails), self.noting(fails) as (how, noted):
+                self.file.write_bytes(content)
+                before = self.file.stat().st_ino
+                self.assertEqual(self.squash(**how), Ended(1, b"", unusable(self.file, errno.EIO)))
+                self.assertEqual([it.split()[0] for it in noted()], calls[:made])
+                self.assertEqual((self.file.read_bytes(), self.file.stat().st_ino == before), (stands, stands == content))
+                self.assert_alone()
+                # the next one finishes it
+                self.assertEqual(self.squash(), self.told(1 if stands == small else len(EDITS), 1))
+                self.assertEqual(self.file.read_bytes(), small)
+
+    def test_a_sync_that_fails_at_a_start(self):
+        """With `--squash`. What the squash couldn't sync the start does, or it is refused."""
+        self.keep(lines(*EDITS))
+        content, shown = self.file.read_bytes(), self.shown()
+        small = run("squash", given=content).output
+        squashed, begun = ["folder", "file", "rename", "folder"], ["folder", "file"]
+        for fails, calls, changes in (
+            (0, squashed + begun, 1), (1, squashed[:1] + begun, len(EDITS)), (2, squashed[:2] + begun, len(EDITS)),
+            (3, squashed + begun, 1), (4, squashed + begun[:1], None), (5, squashed + begun, None),
+        ):
+            with self.subTest(fails=fails), self.noting(fails) as (how, noted):
+                self.file.write_bytes(content)
+                files = {"stdin": self.file_of(LOOKS), "stdout": subprocess.PIPE}
+                with started("run", "--keep", str(self.file), "--squash", **files, **how) as session:
+                    output, error = session.communicate(timeout=LIMIT)
+                due = Ended(1, b"", unusable(self.file, errno.EIO)) if changes is None else Ended(
+                    0, shown, lines(f"opened {self.file}, {changes} changes"))
+                self.assertEqual(Ended(session.returncode, output, error), due)
+                self.assertEqual([it.split()[0] for it in noted()], calls)
+                self.assertEqual(self.file.read_bytes(), content if changes == len(EDITS) else small)
+                self.assert_alone()
 
     def test_killed_at_any_moment(self):
         """The file is the old one or the new one, whole; what an earlier one left is replaced."""
