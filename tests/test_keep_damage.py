@@ -10,9 +10,26 @@ EDITS = (
     *(f"set A{row} {row * 7}" for row in range(1, 9)), "set B1 =SUM([.A1:.A8])", "set C1 @tally", "add C1 7", "sub C1 2",
     "set D1 @choice", "choose D1 3", "choose D1 63", "unchoose D1 3", "set B2 it's \"tea\"", "set A1 70", "set B1 =[.A1]*2",
     *(f"set E{row} text {row}" for row in range(1, 9)), "add C1 100", "set A2 @tally", "add A2 1",
+    # formulas in chains, of ranges, with each fault, and numbers at the edges
+    *(f"set F{row} =[.A{row}]*{row}-[.F{row + 1}]" for row in range(1, 9)), "set F9 11", "set F10 =MOD(1;0)",
+    "set F11 =[.E2]+1", "set F12 =[.F13]", "set F13 =[.F12]", "set A9 9223372036854775807", "set A10 =[.A9]+1",
+    "set A11 -9223372036854775808", "set A12 =IF([.A1]>[.A3];COUNT([.A1:.E8]);MAX([.C1:.C2]))",
+    *(f"set C{row} =SUM([.A1:.A{row}])" for row in range(3, 9)), *(f"set D{row} =[.C{row}]-[.F1]" for row in range(3, 9)),
+    # texts of each kind, and cells that are cleared and set again
+    *(f"set E{row} {text}" for row, text in enumerate(("'11", "'=1", "a,b", "äöü 日本", "x" * 64, "\\ 1", "1.5"), 9)),
+    "set E9 ", "set E1 ", "set E1 1", "set F2 ", "set E16 first", "set E16 second", "set E16 @tally", "set E16 ",
+    # counters, and sets with several options
+    "set C2 @tally", *(f"{verb} C2 {amount}" for amount in (1, 12, 1000000) for verb in ("add", "sub", "add")),
+    "set D2 @choice", *(f"choose D2 {option}" for option in (0, 1, 10, 21, 63)), "unchoose D2 10", "choose D2 10",
+    # what other replicas made: a later content, parts of a counter and of a set, and several cells at once
+    'push [["A3",[90,2,"17"],[],[]]]', 'push [["C1",null,[[2,41,1]],[]]]', 'push [["D1",null,[],[[7,31,1,0],[63,1,1,1]]]]',
+    'merge [["C2",[1,9,"@tally"],[[9,12,3]],[]],["B3",[1,9,"=[.C1]"],[],[]],["B4",[2,9,"\'1"],[],[]]]', "set A3 21",
+    "sub C1 1", "unchoose D1 63", "set B3 over", *(f"set B{row} =-[.D{row}]" for row in range(5, 9)),
 )
-LOOKS = ("rows A1:E8", "entries A1:E8")
+LOOKS = ("rows A1:F16", "entries A1:F16", "get CZ1024")
 SEED = 714
+# So many changes the file has at least.
+CHANGES = 100
 
 
 class Damaged(KeepingTest):
@@ -45,6 +62,7 @@ class Damaged(KeepingTest):
 
     def test_each_sync_writes_one_digest_line(self):
         self.assertEqual(kept.without_digests(self.content), text_of(*EDITS))
+        self.assertGreaterEqual(kept.changes_in(self.content), CHANGES)
         digests = self.content.count(b"\n") - text_of(*EDITS).count(b"\n")
         # the first line, each edit that waited, and those that came at once
         self.assertEqual(digests, 1 + len(EDITS) // 2 + 1)
@@ -97,7 +115,7 @@ class Damaged(KeepingTest):
         for place in range(len(self.rows())):
             rows = self.rows()
             rows.insert(place, rows[place])
-            self.assert_seen(b"".join(rows), place=place)
+            self.assertTrue(self.assert_seen(b"".join(rows), place=place))
 
     def test_a_lost_last_line_feed_and_a_lost_end(self):
         """As after a crash: the last sync's lines stand without a digest, and the next sync writes one over them."""
