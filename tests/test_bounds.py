@@ -3,12 +3,13 @@ import contextlib
 import os
 import subprocess
 import time
+from pathlib import Path
 
 import peers
 from browser_socket import TEXT, WebSocket, frame
 from preloaded import PROGRAM
 from program import LIMIT, SHEET, Ended, ProgramTest, lines
-from servers import serving
+from servers import comes_to, serving
 from sizes import COLUMNS, LARGEST_TABLE, LONGEST_DELTA, name, pushes
 
 # A sheet of 100,048 cells.
@@ -233,6 +234,86 @@ class Beside(ProgramTest):
         """The most memory that the server had so far, in bytes."""
         with open(f"/proc/{self.server.session.pid}/status") as status:
             return next(int(line.split()[1]) for line in status if line.startswith("VmHWM:")) * 1_024
+
+
+# How many lines those who read nothing send at once, and how many do so.
+AT_ONCE, UNREADING = 100_000, 4
+# The bytes that a session reserves for replies (`ROOM`): twice those that may wait (`PIECE_BYTES`).
+RESERVED = 131_072
+# The bytes of the entries of the sheet, and what threads and their stacks take besides.
+ENTRIES, BESIDES = 7_030_000, 1_000_000
+
+
+class Unread(ProgramTest):
+    """Who sends many lines at once and reads no reply takes a bounded memory, of a server that keeps its sheet, too."""
+
+    # How often a session of lines takes the room of a reply at the most: as it is made, as it waits, and once more that
+    # the allocator hasn't given back.
+    COPIES = 3
+
+    def opened(self, server):
+        """A session that has its slot."""
+        client = server.client(room=4_096)
+        self.assertRegex(client.ask("get A2"), "^val ")
+        return client
+
+    def given(self, line):
+        """The bytes of so many of this line."""
+        return lines(line) * AT_ONCE
+
+    def assert_held(self, server, line, reply, least=0):
+        """Sessions send this line many times and read nothing. The server holds a few replies of so many bytes for each,
+        and at least so many bytes in all."""
+        opened = [self.opened(server) for _ in range(UNREADING)]
+        process = server.session.pid
+        before, most = server.memory(), UNREADING * (self.COPIES * reply + RESERVED) + BESIDES
+        # (which forgets the most memory so far)
+        Path(f"/proc/{process}/clear_refs").write_text("5")
+        for one in opened:
+            one.connection.settimeout(1)
+            with contextlib.suppress(TimeoutError):
+                one.connection.sendall(self.given(line))
+
+        def held():
+            return server.status("VmHWM:") - before
+
+        def is_over():
+            """Whether the server does nothing more, or holds too much."""
+            used = processor_time(process)
+            time.sleep(0.3)
+            return held() > most or processor_time(process) == used and held() >= least
+
+        self.assertTrue(comes_to(is_over), held())
+        self.assertLess(held(), most)
+        for one in opened:
+            one.connection.close()
+
+    def test_replies_that_nobody_reads(self):
+        for keeps in (False, True):
+            words = ("--keep", str(self.folder() / "plan.lines")) if keeps else ()
+            with self.subTest(keeps=keeps), serving(None, *words, program=PROGRAM) as server:
+                client = server.client()
+                client.send(lines(*pushes(lambda *_: "'" + "x" * 64, range(2, 1_025))))
+                for number in range(1, 1_024):
+                    self.assertEqual(client.reply(), f"ok {number}")
+                self.assert_held(server, "get A2", 69)
+                self.assert_held(server, "entries A1:CZ1024", ENTRIES, least=UNREADING * ENTRIES)
+
+
+class UnreadByBrowsers(Unread):
+    # .. and one of a browser: as it waits, as the message, as the bytes of its frame, and that one
+    COPIES = 4
+
+    def opened(self, server):
+        """A browser that has its slot."""
+        socket = WebSocket(server.port, room=4_096)
+        self.addCleanup(socket.connection.close)
+        self.assertRegex(socket.ask("get A2"), "^val ")
+        return socket
+
+    def given(self, line):
+        """The frames of so many of this line."""
+        return frame(TEXT, line.encode()) * AT_ONCE
 
 
 # Ranges of so many rows are walked cell by cell, and of longer ones each 57 rows are remembered.
