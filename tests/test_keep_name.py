@@ -1,15 +1,17 @@
 """A kept file that is removed, moved, replaced, cut or written to while a program keeps it: nothing more is
 acknowledged."""
 import contextlib
+import errno
 import os
+import socket
 import subprocess
 from itertools import product
 
 import peers
 from hunt import kept
 from keeping import MOVED, RESIZED, UNNAMED, KeepingTest, replies_to, text_of
-from preloaded import PROGRAM
-from program import LIMIT, Ended, lines, run, started
+from preloaded import PROGRAM, before, build
+from program import LIMIT, Ended, lines, run, started, unusable
 from servers import free_port, serving
 
 COMMANDS = ("run", "serve")
@@ -28,6 +30,11 @@ ELSEWHERE = {
     "moved away": 'mv "$1" "$1.old"',
     "moved away, and another one moved to its place": 'mv "$1" "$1.old" && mv "$2" "$1"',
     "removed, with another name": 'ln -f "$1" "$1.old" && rm "$1"',
+}
+# its path can't be followed, for this reason of the system,
+UNFOLLOWED = {
+    "a file in the folder's place": ('mv "${1%/*}" "$2" && : > "${1%/*}"', errno.ENOTDIR),
+    "a link to itself": ('rm "$1" && ln -s "$1" "$1"', errno.ELOOP),
 }
 # it has other bytes,
 CHANGED = {
@@ -133,6 +140,19 @@ class Taken(Beside):
                 self.assert_not_acknowledged(command, script, MOVED)
                 self.assertEqual(kept.without_digests((moved / "plan.lines").read_bytes()), text_of(*FIRST))
 
+    def test_a_path_that_cannot_be_followed(self):
+        """A path that was a link leads through a file, or to itself."""
+        for command, (name, (script, reason)) in product(COMMANDS, UNFOLLOWED.items()):
+            with self.subTest(command=command, name=name):
+                place = self.folder()
+                self.file, there = place / "within" / "plan.lines", place / "there.lines"
+                self.file.parent.mkdir()
+                there.touch()
+                self.file.symlink_to(there)
+                self.other = place / "elsewhere"
+                self.assert_not_acknowledged(command, script, reason)
+                self.assertEqual(kept.without_digests(there.read_bytes()), text_of(*FIRST))
+
     def test_a_link_that_leads_elsewhere(self):
         """A path that is a link leads to the file, and then to another one."""
         for command in COMMANDS:
@@ -152,6 +172,34 @@ class Taken(Beside):
                 added = kept.without_any_digests(now[len(left):])
                 self.assertEqual(added, text_of(*FIRST, *THEN)[len(text_of(*FIRST)):])
                 self.assertEqual(was, now)
+
+    def test_a_file_of_the_same_number_on_another_device(self):
+        """The path leads to that one. (The start syncs the first line.)"""
+        library = build("mount.c", self.place / "mount.so")
+        ended = self.run_kept(b"set A1 5\n", env=before(library, MOUNT_PATH=str(self.file)))
+        self.assertEqual(ended, Ended(1, b"", unusable(self.file, MOVED)))
+
+    def test_amid_a_sync(self):
+        """What has happened by the end of the sync is noticed."""
+        library = build("halt.c", self.place / "halt.so")
+        for script, reason in ((REPLACED["removed"], UNNAMED), (ELSEWHERE["moved away"], MOVED),
+                               (CHANGED["written to"], RESIZED)):
+            ours, theirs = socket.socketpair()
+            with self.case(reason=reason), ours, theirs:
+                # (before the sync of the first edit, after those of a start)
+                env = before(library, HALT_CALL="s", HALT_FILE=str(theirs.fileno()), HALT_SKIP="3")
+                how = {"env": env, "pass_fds": [theirs.fileno()], "stdin": subprocess.PIPE, "stdout": subprocess.PIPE}
+                with started("run", "--keep", str(self.file), program=PROGRAM, **how) as session:
+                    theirs.close()
+                    ours.settimeout(LIMIT)
+                    session.stdin.write(lines(FIRST[0]))
+                    session.stdin.flush()
+                    self.assertEqual(ours.recv(1), b"s")
+                    self.do(script)
+                    ours.send(b"!")
+                    output, error = session.communicate(timeout=LIMIT)
+                    self.assertEqual(Ended(session.returncode, output, error),
+                                     Ended(1, b"", self.opened(0) + self.lost(reason)))
 
     def test_the_next_start_after_a_removal_begins_anew(self):
         self.assert_not_acknowledged("serve", REPLACED["removed"], UNNAMED)
