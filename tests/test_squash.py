@@ -522,6 +522,14 @@ class InPlace(ProgramTest):
         self.assertEqual(target.read_bytes(), b'replica 1\npush [["A1",[2,1,"6"],[],[]]]\n')
         self.assertEqual(len(list(self.place.iterdir())), 2)
 
+    def test_its_owner_stays(self):
+        """Also where the system's manager squashes it."""
+        self.keep(lines("set A1 5", "set A1 6"))
+        owner = 65_534 if os.geteuid() == 0 else os.geteuid()
+        os.chown(self.file, owner, -1)
+        self.assertEqual(self.squash(), self.told(2, 1))
+        self.assertEqual(self.file.stat().st_uid, owner)
+
     def test_a_disk_that_is_full(self):
         """The file stays, and nothing is left beside it."""
         self.keep(lines(*(f"set A{row} {'x' * 60}" for row in range(1, 200)), "set A1 5"))
