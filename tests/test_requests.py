@@ -156,3 +156,10 @@ class Requests(ProgramTest):
                 replies, found = self.by_run(OPENING, [line] * TIMES)()
                 self.assertEqual(replies[-1], f"ok {len(OPENING) + TIMES}")
                 self.assertLess(found - requests, 10)
+
+    def test_changes_that_come_at_once_are_shown_together(self):
+        """What waits to be shown has its room once for 64 changes, and anew after a look has shown it."""
+        (_, requests), (_, found), (_, looked) = (self.by_serve(OPENING, script)() for script in (
+            (), ["set A1 6"] * TIMES, ["set A1 6", "set A1 7", "get A1"] * TIMES))
+        self.assertLess(found - requests, TIMES / 16)
+        self.assertGreater(looked - requests, TIMES)
