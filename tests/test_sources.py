@@ -15,10 +15,14 @@ from program import NO_KIT, TOP
 sys.path.insert(0, str(TOP / "release"))
 import tools
 
-# What says it: a variant `Memory`, or the allocator's own error made by hand.
-SAID = re.compile(r"\b(?:\w+::Memory|AllocError)\b")
+# What says it: a variant `Memory`, or the allocator's or the system's own error made by hand.
+SAID = re.compile(r"\b(?:\w+::(?:OutOf)?Memory|AllocError)\b")
+# An import by which `Memory` alone says it, which no source has.
+IMPORTED = re.compile(r"^\s*(?:pub )?use\b[^;]*?(?:::(?:\{[^;]*\b)?Memory\b|(?:Refusal|Fault)::\*)", re.MULTILINE)
 # What follows a pattern: such an arm passes on what somebody below said.
 PATTERN = re.compile(r"\)*\s*(?:=>|\|(?!\|)|if\b)")
+# What stands before a value that another one is compared with.
+COMPARED = re.compile(r"[=!]= *(?:\w+::)*$")
 # What stands before a type.
 TYPED = re.compile(r"(?:[<:]\s*|,\s*|->\s*|\bfor\s+)$")
 # Each place that says it by itself: the line before it and the line, and why it may.
@@ -91,21 +95,24 @@ def says(code):
     is_told = False
     for said in SAID.finditer(code):
         if PATTERN.match(code, said.end()):
-            is_told = True
-        elif not is_told and not TYPED.search(code[:said.start()]):
+            # (a place that tells what the system said has to be known, too)
+            is_told = is_told or "OutOf" not in said.group()
+        elif not is_told and not any(it.search(code[:said.start()]) for it in (TYPED, COMPARED)):
             return True
     return False
 
 
 def places(text):
-    """Returns each place of a source that says it by itself: the line before it and the line."""
+    """Returns each place of a source that says it by itself, the line before it and the line, and each import."""
     code = code_of(text)
-    return [(before, line) for before, line in zip(["", *code], code) if says(line)]
+    said = [(before, line) for before, line in zip(["", *code], code) if says(line)]
+    return said + [("", found.group()) for found in IMPORTED.finditer(text)]
 
 
 def meters(text):
-    """Returns how many meters a source makes."""
-    return len(re.findall(r"\bMeter(?:::<[^>]*>)?::new\b", "\n".join(code_of(text))))
+    """Returns how many meters a source makes. Another name for their type counts as one, too."""
+    made = re.findall(r"\bMeter(?:(?:::)?<[^;\n(){}]*?>)?>?::new\b", "\n".join(code_of(text)))
+    return len(made) + len(re.findall(r"\bMeter as\b|^(?:pub )?type\b[^;]*=[^;]*\bMeter\b", text, flags=re.MULTILINE))
 
 
 def sources():
@@ -122,6 +129,14 @@ class Meters(unittest.TestCase):
 
     def test_one_more_is_found(self):
         self.assertEqual(meters("let mut own = Meter::<L>::new(blank);\n// Meter::new\nlet other = Meter::new(blank);"), 2)
+        for text in ("let own = Meter::<Own<L>>::new(blank);", "let own = <Meter<L>>::new(blank);", "use ps_eval::Meter as Own;",
+                     "use ps_eval::{Look, Meter as Own};", "pub type Own = Meter<Brand>;"):
+            with self.subTest(text):
+                self.assertEqual(meters(text), 1)
+
+    def test_none_can_be_dropped(self):
+        """So whoever makes one has to end it."""
+        self.assertNotRegex(sources()["ps_eval/src/meter.rt"], r"\bDrop\b")
 
 
 class MemoryTold(unittest.TestCase):
@@ -136,13 +151,20 @@ class MemoryTold(unittest.TestCase):
                      "let Ok(read) = read(bytes) else { return Err(Refusal::Memory); };",
                      "Ok(false) => return Err(KeepFault::Memory),",
                      "_ => Err(Refusal::Memory),",
-                     "Some(_) => Err(AllocError),"):
+                     "Some(_) => Err(AllocError),",
+                     "let fault = fault_of(&io::Error::from(ErrorKind::OutOfMemory));",
+                     "use ps_grid::Refusal::Memory;",
+                     "use ps_grid::Refusal::{Delta,\n    Memory};",
+                     "use ps_grid::Refusal::*;"):
             with self.subTest(text):
                 self.assertTrue(places(text))
 
     def test_what_is_passed_on_is_not(self):
         for text in ("Err(Refusal::Memory) => return Err(KeepFault::Memory),",
                      "Err(AllocError) => Err(Refusal::Memory),",
+                     "if error.kind() == io::ErrorKind::OutOfMemory {",
+                     "ghost use Rattle.ps_grid.specs.declared.refusal.Refusal.TheVariants.{Memory, Version};",
+                     "use ps_keep::{MemoryFile, first_line};\nuse std::alloc::{AllocError, Global};",
                      "fn new(alloc: Global) -> Result<Peer, AllocError>",
                      "impl From<AllocError> for Refusal {"):
             with self.subTest(text):
