@@ -1,4 +1,4 @@
-"""The recipes of `docs/USING.md`: each block of commands writes the block after it, and keeping loses nothing."""
+"""The recipes of `docs/USING.md`: each block of commands writes the block after it, and none loses a change."""
 import contextlib
 import csv
 import io
@@ -16,7 +16,6 @@ from sizes import COLUMNS, LONGEST_DELTA, name
 
 # What the page has first: the functions that its recipes call.
 FUNCTIONS = functions("docs/USING.md")
-PAGE, README = (TOP / "docs/USING.md").read_text(), (TOP / "README.md").read_text()
 RECIPES = recipes("docs/USING.md", "bash")
 # How long recipes wait for what goes on beside them, and how long they wait when they are tried again.
 PAUSE, LONGER = "sleep 2 &&\n", "sleep 15 &&\n"
@@ -39,7 +38,7 @@ class Pasting(ProgramTest):
 
 class Recipes(Pasting):
     def test_each_writes_the_block_after_it(self):
-        self.assertEqual(len(RECIPES), 10)
+        self.assertEqual(len(RECIPES), 9)
         for commands, shown in RECIPES:
             if "git " not in commands:
                 self.assert_writes(commands, shown)
@@ -86,11 +85,7 @@ class Recipes(Pasting):
 
 
 class Keeping(Pasting):
-    """Nothing is lost by `keep` from `run`, by `follow` from `serve`, and by the `ask` of `README.md`."""
-
-    def from_run(self):
-        """Keeps what the file `given` does at `run`."""
-        self.assertEqual(self.paste("keep ./sheet run < given > kept"), Ended(0))
+    """Nothing is lost by `follow` from `serve`, and by the `ask` of `README.md`."""
 
     def from_serve(self):
         """Keeps what the file `given` does at `serve`."""
@@ -115,7 +110,7 @@ class Keeping(Pasting):
         csv.writer(table, lineterminator="\n").writerows(shown)
         asked = f"rows A1:{name(len(shown[0]) - 1, len(shown))}"
         (self.place / "given").write_text("".join(f"{line}\n" for line in given))
-        for keep, count in ((self.from_run, groups), (self.from_serve, groups), (self.by_asking, len(given))):
+        for keep, count in ((self.from_serve, groups), (self.by_asking, len(given))):
             with self.subTest(keep=keep.__name__):
                 keep()
                 kept = (self.place / "kept").read_text().split("\n")[:-1]
@@ -162,39 +157,6 @@ class Keeping(Pasting):
     def test_texts_byte_by_byte(self):
         texts = ["two  blanks ", " before", "\\n \\\\ \\", '"quoted", and not', "äpfel 梨", "$HOME `x` %s *", "-n"]
         self.assert_kept([f"set {name(column, 1)} {text}" for column, text in enumerate(texts)], [texts], 1)
-
-
-class Failing(Pasting):
-    """`keep` fails rather than keep less than all."""
-
-    def assert_fails(self, commands, error, output=b""):
-        """These commands fail with this on standard error."""
-        with self.subTest(commands=commands):
-            ended = self.paste(commands)
-            self.assertNotEqual(ended.status, 0)
-            self.assertEqual(ended.output, output)
-            self.assertIn(error, ended.error)
-
-    def test_a_line_that_is_refused(self):
-        self.assert_fails(r"printf 'set A1 5\nset A0 5\n' | keep ./sheet run", b"keep: stopped by err 1 cell\n")
-        self.assert_fails(r"printf 'push []\n' | keep ./sheet run", b"keep: stopped by err 14 delta\n")
-
-    def test_a_session_that_ends_early(self):
-        self.assert_fails("keep true < /dev/null", b"keep: stopped by the end of the session")
-        self.assert_fails("keep printf 'ok 1\\ndelta 1 [[' < /dev/null", b"keep: stopped by delta 1 [[\n")
-        self.assert_fails(f"keep ./sheet talk --to {free_port()} < /dev/null", b"keep: stopped by the end of the session")
-
-    def test_an_input_that_cannot_be_read(self):
-        self.assert_fails("keep ./sheet run < .", b"keep: stopped by err 16 command\n")
-        self.assert_fails("(cat none && echo 'set A1 5') | keep ./sheet run", b"none")
-
-    def test_an_output_that_fails(self):
-        self.assert_fails("echo 'set A1 5' | keep ./sheet run > /dev/full", b"write error")
-
-    def test_questions_are_left_out_and_a_last_line_without_line_feed_is_taken(self):
-        given = r"printf 'set A1 5\nget A1\npull 0 16\nrows A1:B1\n\nset B1 6' | keep ./sheet run"
-        kept = lines('push [["A1",[1,1,"5"],[],[]],["B1",[1,1,"6"],[],[]]]')
-        self.assertEqual(self.paste(given), Ended(0, kept))
 
 
 # A stand-in for `ssh`, which leads to the port of this machine that `-W` names, and ends with that connection.
@@ -302,10 +264,13 @@ class Copies(Pasting):
         ended = self.paste(copy.replace("7001", str(free_port())))
         self.assertEqual((ended.status, ended.output), (1, b""))
 
-    def test_no_recipe_replaces_a_kept_file(self):
-        """What is moved over another file is one of a folder that is shared, which nobody keeps open."""
-        targets = set(re.findall(r"\bmv \S+ (\S+)", README + PAGE))
-        self.assertEqual(targets, {"shared/ann.lines", "shared/bob.lines", "ann/ann.lines", "bob/bob.lines"})
+    def test_no_recipe_moves_a_file(self):
+        """A file that is moved over another one replaces it, which a server may have."""
+        files = [TOP / "README.md", *(TOP / "docs").glob("*.md"), *(TOP / "packaging").iterdir()]
+        self.assertIn(TOP / "docs/USING.md", files)
+        for file in files:
+            with self.subTest(file=file.name):
+                self.assertEqual(re.findall(r".*\bmv\b.*", file.read_text()), [])
 
 
 class GoingBack(Pasting):

@@ -70,7 +70,7 @@ class Examples(ProgramTest):
 
     def test_each_session_of_two_replicas_writes_the_block_after_it(self):
         sessions = recipes("docs/USING.md", "sh")
-        self.assertEqual(len(sessions), 3)
+        self.assertEqual(len(sessions), 2)
         for command, shown in sessions:
             with self.subTest(command=command):
                 self.assertTrue(command.startswith("./sheet run"))
