@@ -168,8 +168,8 @@ exec cat <&3
 """
 
 
-class Starting(Pasting):
-    """Servers as the pages start them: a team's, and those of two machines."""
+class Running(Pasting):
+    """A test of what the pages start, with clients."""
 
     @contextlib.contextmanager
     def running(self, commands, place=None):
@@ -194,6 +194,16 @@ class Starting(Pasting):
         self.addCleanup(client.close)
         return client
 
+
+class Starting(Running):
+    """Servers as the pages start them: a team's, and those of an office and two laptops."""
+
+    def machine(self):
+        """The folder of one more machine."""
+        place = self.folder()
+        os.symlink(SHEET, place / "sheet")
+        return place
+
     def test_a_server_has_all_that_it_answered_when_it_is_started_again(self):
         served = [*beginning("README.md", "./sheet serve"),
                   *beginning("docs/USING.md", "./sheet serve --port 7001 --keep")]
@@ -217,26 +227,31 @@ class Starting(Pasting):
             self.assertEqual(client.ask("set A1 5"), "ok 1")
             self.assertEqual(self.client(port).ask("get A1"), "val 5")
 
-    def test_a_laptop_and_the_office_agree_after_each_time_without_a_network(self):
+    def test_two_laptops_and_the_office_agree_after_each_time_without_a_network(self):
         [office] = beginning("docs/USING.md", "./sheet serve --port 7001 --replica 1")
         [laptop] = beginning("docs/USING.md", "./sheet serve --port 7001 --replica 2")
-        there, here, place = free_port(), free_port(), self.folder()
-        os.symlink(SHEET, place / "sheet")
+        there, ports, place = free_port(), (free_port(), free_port()), self.machine()
         (self.place / "ssh").write_text(SSH)
         (self.place / "ssh").chmod(0o755)
-        # (both machines have the port 7001, and a pause of five seconds is long)
-        laptop = laptop.replace("-W 127.0.0.1:7001", f"-W 127.0.0.1:{there}").replace("7001", str(here))
-        with self.running(laptop.replace("sleep 5", "sleep 0.2")):
-            ours, count = self.client(here), 0
-            self.assertEqual(ours.ask("set A1 @tally"), "ok 1")
+        # (all machines have the port 7001, and a pause of five seconds is long)
+        laptop = laptop.replace("-W 127.0.0.1:7001", f"-W 127.0.0.1:{there}").replace("sleep 5", "sleep 0.2")
+        one, two = (laptop.replace("7001", str(port)) for port in ports)
+        two = two.replace("--replica 2", "--replica 3")
+        self.assertNotEqual(two.replace(str(ports[1]), str(ports[0])), one)
+        with self.running(one, self.machine()), self.running(two, self.machine()):
+            ours, count = [self.client(port) for port in ports], 0
+            for client in ours:
+                self.assertEqual(client.ask("set A1 @tally"), "ok 1")
             for _ in range(2):
-                self.assertTrue(ours.ask("add A1 3").startswith("ok "))
+                for client in ours:
+                    self.assertTrue(client.ask("add A1 3").startswith("ok "))
                 with self.running(office.replace("7001", str(there)), place):
                     theirs = self.client(there)
-                    theirs.wait_for("get A1", f"val {count + 3}")
+                    theirs.wait_for("get A1", f"val {count + 6}")
                     self.assertTrue(theirs.ask("add A1 4").startswith("ok "))
-                    count += 7
-                    ours.wait_for("get A1", f"val {count}")
+                    count += 10
+                    for client in ours:
+                        client.wait_for("get A1", f"val {count}")
 
 
 class Copies(Pasting):
