@@ -288,6 +288,66 @@ class Copies(Pasting):
                 self.assertEqual(re.findall(r".*\bmv\b.*", file.read_text()), [])
 
 
+class Damaged(Running):
+    """What `docs/USING.md` does about a damaged file: its whole lines go on under another number."""
+
+    EDITS = ("set A1 @tally", "add A1 3", "set B1 early", "add A1 7", "set B1 late")
+
+    def kept(self):
+        """The lines of replica 1's file, where each edit waited for its reply. Replica 2 has them too, and adds 10."""
+        file, other = self.place / "plan.lines", self.place / "other.lines"
+        for number, edit in enumerate(self.EDITS, 1):
+            self.assertEqual(run("run", "--keep", str(file), given=lines(edit)).output, lines(f"ok {number}"))
+        given = b"".join([file.read_bytes(), lines("add A1 10")])
+        self.assertEqual(run("run", "--replica", "2", "--keep", str(other), given=given).status, 0)
+        return file.read_bytes().splitlines(keepends=True)
+
+    def assert_refused(self, rows, number):
+        """The file of these lines is refused by this one of them."""
+        file = self.place / "plan.lines"
+        file.write_bytes(b"".join(rows))
+        ended = run("run", "--keep", str(file))
+        self.assertEqual(ended.status, 3)
+        self.assertRegex(ended.error.decode(), rf"^err 14 delta\nline {number} of {re.escape(str(file))}\b")
+        return file
+
+    def assert_goes_on(self, rows, number, whole, shown):
+        """The file of these lines is refused by this one of them. So many whole lines show this, and get the rest."""
+        file = self.assert_refused(rows, number)
+        [recipe] = beginning("docs/USING.md", "head -n 30")
+        ours, theirs = free_port(), free_port()
+        with self.running(recipe.replace("-n 30", f"-n {whole}").replace("7001", str(ours))), \
+                self.running(f"./sheet serve --port {theirs} --replica 2 --keep other.lines &\n"):
+            one, two = self.client(ours), self.client(theirs)
+            self.assertEqual([one.ask(line) for line in ("get A1", "get B1")], [f"val {value}" for value in shown])
+            # somebody counts before the changes of the damaged file are back
+            self.assertTrue(one.ask("add A1 5").startswith("ok "))
+            self.assertEqual(run("join", "--from", str(ours), "--to", str(theirs), "--once"), Ended(0, b"joined\n"))
+            for client in (one, two):
+                self.assertEqual([client.ask(line) for line in ("get A1", "get B1")], ["val 25", "val late"])
+        self.assertEqual(file.read_bytes(), b"".join(rows))
+
+    def test_lines_up_to_the_last_right_digest_go_on(self):
+        rows = self.kept()
+        place = next(place for place, row in enumerate(rows) if b"[[1,10,0]]" in row)
+        rows[place] = rows[place].replace(b"10", b"11")
+        # (a digest line follows each line, the first one too)
+        self.assertEqual([row.startswith(b"replica ") for row in rows[place - 1:place + 2]], [True, False, True])
+        self.assert_goes_on(rows, place + 2, place, (3, "early"))
+
+    def test_lines_before_one_that_pushes_nothing_go_on(self):
+        rows = self.kept()
+        self.assert_goes_on([*rows, b"push [[\0\0\0\n"], len(rows) + 1, len(rows), (10, "late"))
+
+    def test_lines_without_any_right_digest_go_on_up_to_the_torn_one(self):
+        """As of a squashed file, whose first write was torn: its digest stands there."""
+        rows = [row for row in self.kept() if row.startswith(b"push ") or len(row) < 24]
+        self.assertEqual(len(rows), 1 + len(self.EDITS))
+        torn = [*rows, b"push [[\0\0\0\n", b"replica 0123456789abcdef\n"]
+        self.assert_refused(torn[:-1], len(rows) + 1)
+        self.assert_goes_on(torn, len(torn), len(rows), (10, "late"))
+
+
 class GoingBack(Pasting):
     """The way back of `docs/USING.md`, after a line that makes a cell unusable: it has its last time."""
 
