@@ -92,7 +92,8 @@ class Closed(ProgramTest):
         """What is said of the file doesn't get into it."""
         damaged = LONG + b"replica 0123456789abcdef\n"
         for content, said in ((b"walk\n" + LONG, "line 1 of {}: it is no kept sheet"), (LONG + b"walk\n", "line 6 of {}"),
-                              (damaged, "line 6 of {}: it is not the digest of the lines before it")):
+                              (damaged, "line 6 of {}: it is not the digest of the lines before it. No line is known to be "
+                                        'whole: see docs/USING.md, "A damaged file"')):
             for closed, file in self.files(content):
                 error = lines("err 14 delta", said.format(file))
                 self.assert_ended(closed, 3, error, "squash", "--keep", str(file))
