@@ -71,8 +71,18 @@ class Machine:
                 is_join = b"\0join\0--with\0" in (process / "cmdline").read_bytes()
                 if is_join and os.getpgid(int(process.name)) == self.beside.pid:
                     os.kill(int(process.name), signal.SIGKILL)
+                    # (a line that came before its end would be read by nobody)
+                    assert comes_to(lambda: is_over(process))
                     return
         raise AssertionError(self.said())
+
+
+def is_over(process):
+    """Whether the process of this folder has ended."""
+    try:
+        return (process / "stat").read_text().rsplit(")", 1)[1].split()[0] in "ZX"
+    except OSError:
+        return True
 
 
 class Agreement(ProgramTest):
