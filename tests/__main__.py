@@ -31,7 +31,7 @@ ROWS = ("test_start", "test_transcripts")
 # The files of tests that take longest, which begin first, and those that measure time, which run one after the other
 # once all others have ended.
 LONG = ("test_seats", "test_entries", "test_page_monkey", "test_hunt", "test_page_wire")
-ALONE = ("test_page_start", "test_tables", "test_wait", "test_workers")
+ALONE = ("test_page_speed", "test_page_start", "test_tables", "test_wait", "test_workers")
 USAGE = (
     "usage: ./test, or ./test --program [TEXT], or ./test --wrong [CRATE], or ./test --list,"
     " or ./test --hunt MINUTES [--seed NUMBER]"
