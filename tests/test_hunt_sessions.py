@@ -6,6 +6,8 @@ from hunt.channels import Broken
 from hunt.finds import Hunt
 from hunt.houses import House
 from hunt.parts import Sessions
+from hunt.plans import Plan
+from hunt.talks import begins_command
 from program import ProgramTest
 
 SEED = 15
@@ -56,6 +58,21 @@ class Planted(ProgramTest):
         hunt = Hunt(SEED, [Sessions(session_faults.by_desk(desks.Desk), desks.sync)])
         find = hunt.first(hunt.parts[0], 40)
         self.assertIsNone(find and find.trouble)
+
+
+class BrokenOff(ProgramTest):
+    def test_beginnings_that_may_be_a_request(self):
+        """A connection that is broken off after one is no session: a word alone, or one before `/` or `*`."""
+        for begun, is_command in ((b"", False), (b"p", False), (b"pull", False), (b"pull ", False), (b"pull 1", True),
+                                  (b"patch /", False), (b"set *", False), (b"set A1 *", True), (b"Get A1", False)):
+            with self.subTest(begun=begun):
+                self.assertEqual(begins_command(begun), is_command)
+
+    def test_half_a_word(self):
+        """It takes none of the sessions that a server waits for."""
+        settings = {"servers": 1, "sessions": 2, "syncs": 0, "replica": 1, "workers": 1, "followers": 0, "kept": False}
+        plan = Plan(settings, (("send", 0, b"pul"), ("leave", 0, 1), ("send", 1, b"set A1 5\n"), ("end", 1)))
+        self.assertIsNone(Sessions().trouble(plan))
 
 
 class Killed(ProgramTest):

@@ -25,6 +25,11 @@ class Line:
         return self.text.removesuffix(b"\r") != b""
 
 
+def begins_command(begun):
+    """Whether these bytes begin a command with an argument, whatever follows. So no request begins with them."""
+    return begun[:1].islower() and begun.partition(b" ")[2][:1] not in (b"", b"/", b"*")
+
+
 class Talk:
     """A session: its connection, the lines that it has sent, and the beginning of one that it hasn't ended."""
 
@@ -106,7 +111,7 @@ class Talk:
     def break_off(self, is_reset):
         """Closes the connection or breaks it off, whatever was answered."""
         self.is_open, self.is_broken_off = False, True
-        if is_reset and not self.lines and not self.begun[:1].islower():
+        if is_reset and not self.lines and not begins_command(self.begun):
             # (a connection that is broken off while it may be a request is no session)
             self.send(b"\n")
         if self.begun and not is_reset:
